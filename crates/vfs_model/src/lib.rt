@@ -1,0 +1,22 @@
+//! The words of a stack of VFS layers: file names and their kinds, lock levels, owners, layers, and in
+//! `specs/` what a file is, what a stop may leave of it and what each call does to it.
+//!
+//! Nothing here reads or writes a file. Every crate above cites these definitions.
+#![tactic(auto)]
+
+ghost use Rattle.vfs_model.specs.File.{OnlyImage};
+
+mod layer;
+mod level;
+mod name;
+mod pattern;
+
+pub use layer::{Group, Groups, Layer};
+pub use level::{Fid, Level, Owner};
+pub use name::{Kind, Name};
+pub use pattern::Pattern;
+
+/// A stop leaves of a settled file the file itself.
+pub fn settled_stays()
+    ensures { OnlyImage }
+{}

@@ -1,3 +1,4 @@
+pub mod Places
 pub mod Padded
 pub mod Name
 pub mod NameFields

@@ -1,6 +1,6 @@
 -- What each call of a stack answers and leaves, by cases on its answer.
-use Rattle.std.specs.Prelude.{◌≡◌, ◌≢◌, ℕ, ◌+◌, ◌-◌, ◌≤◌, ◌<◌, List, [], ◌∷◌, length, min, IsTrue, Option, Some, None, IsSome, Result, Ok, Err, slice_get}
-use Rattle.vfs_model.specs.File.{Found, FileState}
+use Rattle.std.specs.Prelude.{◌≡◌, ◌≢◌, ℕ, ◌+◌, ◌-◌, ◌≤◌, ◌<◌, List, [], ◌∷◌, length, min, Some, None, IsSome, Result, Ok, Err, slice_get}
+use Rattle.vfs_model.specs.File.{FileState}
 use Rattle.vfs_model.specs.Effect.{Wrote, WriteFailed, WriteFull, Cut, CutFailed, Opened, OpenFailed}
 use Rattle.vfs_model.specs.declared.level.Fid.{Fid}
 use Rattle.vfs_model.specs.declared.layer.Layer.{Layer}
@@ -64,12 +64,13 @@ pub record FillsUp (buf : List ℕ) (count : ℕ) : Type 0 where
   pub zeros : (place : ℕ) → count ≤ place → place < length buf → slice_get buf place ≡ Some 0
 
 -- they are the bytes of the file from the offset on, as many as it has there
-pub record Reads (file : Found) (off : ℕ) (buf : List ℕ) (count : ℕ) : Type 0 where
-  pub counted : count ≡ min (length buf) (length file.bytes - off)
-  pub bytes : (place : ℕ) → place < count → slice_get buf place ≡ slice_get file.bytes (off + place)
+pub record Reads (file : List ℕ) (off : ℕ) (buf : List ℕ) (count : ℕ) : Type 0 where
+  pub counted : count ≡ min (length buf) (length file - off)
+  pub bytes : (place : ℕ) → place < count → slice_get buf place ≡ slice_get file (off + place)
 
-abbrev pub AllZero : List ℕ → Type 0
-AllZero buf = (place : ℕ) → place < length buf → slice_get buf place ≡ Some 0
+-- the buffer holds zeros
+pub record AllZero (buf : List ℕ) : Type 0 where
+  pub each : (place : ℕ) → place < length buf → slice_get buf place ≡ Some 0
 
 abbrev pub WriteLeaves : FileState → FileState → ℕ → List ℕ → Result Unit VfsFault → Type 0
 WriteLeaves old new off bytes (Ok _) = Wrote old new off bytes

@@ -50,7 +50,7 @@ pub trait Vfs: Drop {
         ensures cause { Caused ⊥ (MayFail (state self.old).layers) (state self.old) (state self.new) result }
         ensures opens { OpenStays (state self.old) (state self.new) }
         ensures fills { IfOk result (FillsUp buf.new) }
-        ensures reads { IsTrue (state self.old).tells → IfOk result (Reads (file_at (state self.old) fid.0).now off buf.new) }
+        ensures reads { IsTrue (state self.old).tells → IfOk result (Reads (file_at (state self.old) fid.0).now.bytes off buf.new) }
         ensures refused { OnErr result (AllZero buf.new) }
         ensures files { IsTrue (state self.old).tells → FilesStay (state self.old).files (state self.new).files }
         ensures shows { ShowsBase (state self.new) };

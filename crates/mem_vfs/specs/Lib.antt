@@ -1,0 +1,5 @@
+pub mod Splice
+pub mod Memory
+pub mod Given
+pub mod Sure
+pub mod Failing

@@ -1,0 +1,174 @@
+//! A device in memory that fails at the calls that it is told to.
+
+ghost use Rattle.std.specs.Prelude.{◌≡◌, ℕ, ◌≤◌, List, length, IfOk, IfNone, OnSome};
+ghost use Rattle.vfs_model.specs.File.{absent};
+ghost use Rattle.vfs_trait.specs.Count.{Rose};
+
+use crate::SureVfs;
+use crate::sure::zero_all;
+use std::alloc::{AllocError, Global};
+use vfs_model::{Fid, Kind, Name};
+use vfs_trait::{Bytes, Vfs, VfsFault};
+
+/// A device call that fails.
+#[derive(Clone, Copy, Debug, PartialEq, Eq)]
+pub struct FailAt {
+    /// The number of the call, from 1, among all calls that reach the device: `open`, `read`, `write`,
+    /// `cut`, `sync`, `length`.
+    pub call: u64,
+    /// How many bytes a failing write puts first, or all if it is shorter.
+    pub reach: u64,
+    /// Whether every later call fails too, and changes nothing.
+    pub from_then_on: bool,
+}
+
+/// A device in memory that fails at given calls. Each failure raises its count by one; at the greatest count
+/// it stays.
+#[derive(Drop)]
+pub struct MemVfs {
+    device: SureVfs,
+    fails: Vec<FailAt>,
+    calls: u64,
+    /// Whether every call fails from now on.
+    dead: bool,
+    faults: u64,
+}
+
+impl MemVfs {
+    ghost use Rattle.vfs_trait.specs.State.{NoneOpen};
+    ghost use Rattle.mem_vfs.specs.Failing.{mem_state};
+    ghost use Rattle.mem_vfs.specs.Given.{Has, Shows};
+
+    /// A device without files that never fails.
+    pub fn new(alloc: Global) -> Result<MemVfs, AllocError>
+        ensures empty { IfOk result (λ device. (name : List ℕ) → (mem_state device).files name ≡ absent) }
+        ensures closed { IfOk result (λ device. NoneOpen (mem_state device)) }
+    {
+        Ok(MemVfs {
+            device: SureVfs::new(alloc)?,
+            fails: Vec::new(alloc),
+            calls: 0,
+            dead: false,
+            faults: 0,
+        })
+    }
+
+    /// A device with these files, settled, that fails at these calls. Of two files of one name the first counts.
+    pub fn with(
+        alloc: Global,
+        files: Vec<(Name, Bytes)>,
+        fails: Vec<FailAt>,
+    ) -> Result<MemVfs, AllocError>
+        ensures given { IfOk result (λ device. Has (mem_state device).files files.items) }
+        ensures closed { IfOk result (λ device. NoneOpen (mem_state device)) }
+    {
+        Ok(MemVfs {
+            device: SureVfs::with(alloc, files)?,
+            fails,
+            calls: 0,
+            dead: false,
+            faults: 0,
+        })
+    }
+
+    /// The bytes that a read finds of a file, or `None` where there is no file of the name.
+    pub fn bytes_of(&self, name: &Name) -> Option<&[u8]>
+        ensures { Shows ((mem_state self.now).files name.now).now result }
+    {
+        self.device.bytes_of(name)
+    }
+
+    /// Counts a call, and says whether it fails: then how many bytes a write puts first.
+    fn fails_now(&mut self) -> Option<u64>
+        ensures goes { IfNone result (self.new.faults ≡ self.old.faults) }
+        ensures fails { OnSome result (Rose self.old.faults self.new.faults) }
+        ensures counts { self.old.faults ≤ self.new.faults }
+        ensures device { self.new.device ≡ self.old.device }
+    {
+        self.calls = self.calls.saturating_add(1);
+        let reach = if self.dead { 0 } else { self.told_to_fail()? };
+        self.faults = self.faults.saturating_add(1);
+        Some(reach)
+    }
+
+    /// The reach of the failure that is told for this call.
+    fn told_to_fail(&mut self) -> Option<u64>
+        ensures faults { self.new.faults ≡ self.old.faults }
+        ensures device { self.new.device ≡ self.old.device }
+    {
+        let call = self.calls;
+        let fail = self.fails.iter().find(|fail| fail.call == call)?;
+        self.dead = fail.from_then_on;
+        Some(fail.reach)
+    }
+}
+
+impl Vfs for MemVfs {
+    ghost use Rattle.mem_vfs.specs.Failing.{mem_state};
+
+    ghost state = { mem_state };
+
+    fn open(&mut self, name: &Name, kind: Kind) -> Result<Fid, VfsFault> {
+        if self.fails_now().is_some() {
+            return Err(VfsFault::Failed);
+        }
+        self.device.open(name, kind)
+    }
+
+    fn close(&mut self, fid: Fid) {
+        self.device.close(fid);
+    }
+
+    fn read(&mut self, fid: Fid, off: u64, buf: &mut [u8]) -> Result<usize, VfsFault> {
+        if self.fails_now().is_some() {
+            zero_all(buf);
+            return Err(VfsFault::Failed);
+        }
+        self.device.read(fid, off, buf)
+    }
+
+    fn write(&mut self, fid: Fid, off: u64, bytes: &[u8]) -> Result<(), VfsFault> {
+        match self.fails_now() {
+            None => self.device.write(fid, off, bytes),
+            Some(reach) => {
+                let _ = self.device.write(fid, off, front(bytes, reach));
+                Err(VfsFault::Failed)
+            }
+        }
+    }
+
+    fn cut(&mut self, fid: Fid, len: u64) -> Result<(), VfsFault> {
+        if self.fails_now().is_some() {
+            return Err(VfsFault::Failed);
+        }
+        self.device.cut(fid, len)
+    }
+
+    fn sync(&mut self, fid: Fid) -> Result<(), VfsFault> {
+        if self.fails_now().is_some() {
+            return Err(VfsFault::Failed);
+        }
+        self.device.sync(fid)
+    }
+
+    fn length(&mut self, fid: Fid) -> Result<u64, VfsFault> {
+        if self.fails_now().is_some() {
+            return Err(VfsFault::Failed);
+        }
+        self.device.length(fid)
+    }
+
+    fn view_holds(&self) {
+        self.device.view_holds();
+    }
+}
+
+/// The first bytes, as many as the reach or all.
+fn front(bytes: &[u8], reach: u64) -> &[u8]
+    ensures { length result.now ≤ length bytes.now }
+{
+    match usize::try_from(reach) {
+        Ok(reach) if reach < bytes.len() => &bytes[..reach],
+        _ => bytes,
+    }
+}

@@ -32,15 +32,21 @@ pub record WriteFull (old new : FileState) (off : ℕ) : Type 0 where
   pub size : length new.now.bytes ≡ length old.now.bytes
   pub before : (place : ℕ) → place < length old.now.bytes → place < off → Stays old.now new.now place
 
--- what a stop may leave after a write, whatever it was answered: its range is unsynced, and after Full all
--- from its offset on
+-- what a stop may leave after a write that was done or failed: its range is unsynced
 pub record WriteUnsettles (old new : FileState) (off len : ℕ) : Type 0 where
   pub sure : new.sure ≡ old.sure
   pub shortest : old.shortest ≤ new.shortest
   pub longest : new.longest ≤ max old.longest (off + len)
   pub marks : (place : ℕ) → Beside off len place → new.unsynced place ≡ old.unsynced place
 
--- a cut, failed: the length lies between, and what is left stays
+-- what a stop may leave after a write that was refused as full: all from its offset on is unsynced
+pub record FullUnsettles (old new : FileState) (off len : ℕ) : Type 0 where
+  pub sure : new.sure ≡ old.sure
+  pub shortest : old.shortest ≤ new.shortest
+  pub longest : new.longest ≤ max old.longest (off + len)
+  pub marks : (place : ℕ) → place < off → new.unsynced place ≡ old.unsynced place
+
+-- a cut, failed: the length lies between, the bytes that are left stay, and so do the marks below the length asked for
 pub record CutFailed (old new : FileState) (len : ℕ) : Type 0 where
   pub there : new.now.there ≡ old.now.there
   pub no_shorter : min len (length old.now.bytes) ≤ length new.now.bytes
@@ -58,9 +64,9 @@ pub record CutUnsettles (old new : FileState) (len : ℕ) : Type 0 where
   pub sure : new.sure ≡ old.sure
   pub shortest : min old.shortest len ≤ new.shortest
   pub longest : new.longest ≤ old.longest
-  pub marks : (place : ℕ) → new.unsynced place ≡ old.unsynced place
+  pub marks : (place : ℕ) → place < len → new.unsynced place ≡ old.unsynced place
 
--- what a stop may leave after a sync that was done: the file as it is now
+-- what a stop may leave after a sync that was done: where the file is there, its content as it is now
 pub record Synced (old new : FileState) : Type 0 where
   pub sure : new.sure ≡ old.sure
   pub shortest : new.shortest ≡ length old.now.bytes
@@ -68,7 +74,7 @@ pub record Synced (old new : FileState) : Type 0 where
   pub marks : (place : ℕ) → new.unsynced place ≡ false
 
 -- an opening, failed: a file that was there stays, and one that was not may now be there and empty.
--- A wild file may be found with any content
+-- One that was there and wild may be found with any content
 pub record OpenFailed (old new : FileState) : Type 0 where
   pub found : IsTrue old.now.there → old.wild ≡ false → new.now ≡ old.now
   pub made : old.now.there ≡ false → new.now.bytes ≡ []
@@ -78,7 +84,7 @@ pub record Opened (old new : FileState) : Type 0 where
   pub touched : OpenFailed old new
   pub there : IsTrue new.now.there
 
--- what a stop may leave after an opening: a file that was not there may be there or not, and is then empty
+-- what a stop may leave after an opening: a file that was not there may be there or not, and is no longer than before
 pub record OpenUnsettles (old new : FileState) : Type 0 where
   pub found : IsTrue old.now.there → (new.sure ≡ old.sure) × (new.shortest ≡ old.shortest) × (new.longest ≡ old.longest)
       × ((place : ℕ) → new.unsynced place ≡ old.unsynced place)

@@ -6,3 +6,4 @@ pub mod PatternFields
 pub mod File
 pub mod Store
 pub mod Effect
+pub mod Lock

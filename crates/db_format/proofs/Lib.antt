@@ -1,0 +1,11 @@
+pub mod VarintLemmas
+pub mod RecordLemmas
+pub mod WritingLemmas
+pub mod HeaderLemmas
+pub mod PutLemmas
+pub mod WriteLemmas
+pub mod ReadLemmas
+pub mod FrontLemmas
+pub mod BlankLemmas
+pub mod PartsLemmas
+pub mod ColumnLemmas

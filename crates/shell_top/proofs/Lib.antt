@@ -1,0 +1,6 @@
+pub mod RowsLemmas
+pub mod LineLemmas
+pub mod SessionLemmas
+pub mod RunLemmas
+pub mod ReadLemmas
+pub mod RanLemmas

@@ -1,0 +1,13 @@
+pub mod Words
+pub mod Line
+pub mod Rows
+pub mod Kept
+pub mod Ends
+pub mod Reply
+pub mod Machine
+pub mod Stands
+pub mod SureEnds
+pub mod ListEnds
+pub mod Running
+pub mod Ran
+pub mod Status

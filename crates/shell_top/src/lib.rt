@@ -1,0 +1,20 @@
+//! The top of the shell: the words, the lines, the rows, and the run that joins them.
+#![tactic(auto)]
+
+mod ends;
+mod line;
+mod list_ends;
+mod reply;
+mod rows;
+mod run;
+mod session;
+mod status;
+#[cfg(test)]
+mod tests;
+mod top;
+mod words;
+
+pub use ends::{ReadFailed, Sink, SinkFault, Source, SureSink, SureSource};
+pub use list_ends::{ListSink, ListSource};
+pub use status::Status;
+pub use top::vfsh_run;

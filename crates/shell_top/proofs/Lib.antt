@@ -4,3 +4,4 @@ pub mod SessionLemmas
 pub mod RunLemmas
 pub mod ReadLemmas
 pub mod RanLemmas
+pub mod FaultLemmas

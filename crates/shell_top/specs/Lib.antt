@@ -8,6 +8,7 @@ pub mod Machine
 pub mod Stands
 pub mod SureEnds
 pub mod ListEnds
+pub mod Faults
 pub mod Running
 pub mod Ran
 pub mod Status

@@ -1,6 +1,8 @@
 //! The top of the shell: the words, the lines, the rows, and the run that joins them.
 #![tactic(auto)]
 
+ghost use Rattle.shell_top.specs.Faults.{FaultsCounted};
+
 mod ends;
 mod line;
 mod list_ends;
@@ -18,3 +20,8 @@ pub use ends::{ReadFailed, Sink, SinkFault, Source, SureSink, SureSource};
 pub use list_ends::{ListSink, ListSource};
 pub use status::Status;
 pub use top::vfsh_run;
+
+/// Each `fault` reply of a run has a failed call of its own, as far as the count goes.
+pub fn faults_are_counted()
+    ensures { FaultsCounted }
+{}

@@ -1,6 +1,9 @@
 //! What no clause says: that runs succeed where there is memory, and which calls of the ends and of the
 //! device fail.
 
+ghost use Rattle.std.specs.Prelude.{◌≡◌, []};
+ghost use Rattle.vfs_trait.specs.State.{NoneOpen};
+
 use crate::{ListSink, ListSource, Source, Status, SureSink, SureSource, vfsh_run};
 use mem_vfs::{FailAt, MemVfs, SureVfs};
 use std::alloc::{AllocError, Global};
@@ -30,7 +33,10 @@ fn run_over<V: Vfs>(
     alloc: Global,
     device: &mut V,
     input: &[u8],
-) -> Result<(Status, SureSink), AllocError> {
+) -> Result<(Status, SureSink), AllocError>
+    requires bare { (V.state device.old).layers ≡ [] }
+    requires closed { NoneOpen (V.state device.old) }
+{
     let words = word(alloc, "main")?;
     let mut source = SureSource::new(bytes(alloc, input)?);
     let mut sink = SureSink::new(alloc);
@@ -148,20 +154,18 @@ fn a_file_that_is_not_empty_is_refused(rt: HostRuntime) -> Result<(), Fail> {
 /// The calls of two puts are: open, length; write, cut, sync; write, cut, sync.
 #[test]
 fn each_device_call_fails_in_turn(rt: HostRuntime) -> Result<(), Fail> {
-    let faults: [(&[u8], u8); 9] = [
-        (b"fault\nstopped\nstopped\n", 1),
-        (b"fault\nstopped\nstopped\n", 1),
-        (b"open 0\nfault\nstopped\n", 1),
-        (b"open 0\nfault\nstopped\n", 1),
-        (b"open 0\nfault\nstopped\n", 1),
-        (b"open 0\nnew\nfault\n", 1),
-        (b"open 0\nnew\nfault\n", 1),
-        (b"open 0\nnew\nfault\n", 1),
-        (b"open 0\nnew\nreplaced\n", 0),
+    let cases: [(u64, &[u8], u8); 9] = [
+        (1, b"fault\nstopped\nstopped\n", 1),
+        (2, b"fault\nstopped\nstopped\n", 1),
+        (3, b"open 0\nfault\nstopped\n", 1),
+        (4, b"open 0\nfault\nstopped\n", 1),
+        (5, b"open 0\nfault\nstopped\n", 1),
+        (6, b"open 0\nnew\nfault\n", 1),
+        (7, b"open 0\nnew\nfault\n", 1),
+        (8, b"open 0\nnew\nfault\n", 1),
+        (9, b"open 0\nnew\nreplaced\n", 0),
     ];
-    let mut call = 0;
-    for (replies, code) in faults {
-        call += 1;
+    for (call, replies, code) in cases {
         for (reach, from_then_on) in [(0, false), (0, true), (1, false), (1, true)] {
             let mut fails = Vec::new(rt.alloc());
             fails.push(FailAt {

@@ -1,0 +1,6 @@
+-- The interrupted writes have appended nothing.
+use Rattle.std.specs.Io.KnownBytes.{Keeps}
+use Rattle.vfsh.proofs.again.write_again.Given as goal
+
+abbrev pub invariant-loop : goal.invariant-loop
+invariant-loop g l = Keeps (g.W.Write.contents l.initial.writer) (g.W.Write.contents l.writer)

@@ -6,7 +6,7 @@ use Rattle.shell_top.specs.Line.{HasNoFeed, last_line}
 use Rattle.shell_top.specs.Machine.{Machine}
 use Rattle.shell_top.specs.Ran.{most_input, Answered, Begun, ToTheEnd, SoFar, CutOff, Went}
 use Rattle.shell_top.specs.Reply.{text_of, texts_of}
-use Rattle.shell_top.specs.Running.{Took, TookSome, AllRun, SomeRun, BytesRun, BytesStopped, ReadOn}
+use Rattle.shell_top.specs.Running.{Took, TookSome, AllRun, SomeRun, BytesRun, BytesStopped}
 use Rattle.shell_top.specs.Status.{halt_status}
 use Rattle.shell_top.specs.declared.reply.Reply.{Reply}
 use Rattle.shell_top.specs.declared.run.Halt.{Halt}
@@ -16,6 +16,20 @@ use Rattle.shell_top.specs.declared.session.Table.{Table}
 use Rattle.shell_top.specs.declared.status.Status.{Status}
 use Rattle.shell_top.specs.declared.status.Status.TheVariants.{ReadFault, TooMuch}
 use Rattle.shell_top.proofs.RunLemmas.{took_append, sink_on, some_on, all_on, bytes_none, bytes_on, stopped_on}
+
+-- ---- how far the reading has come
+
+-- the reply to the opening was taken whole, and what was read behind it was run, but for the rest of a line
+pub record ReadOn (opening : Reply) (old new : Machine) (in0 in1 : SourceState) (out0 out1 : SinkState) (count : ℕ) (line : List ℕ) : Type 0 where
+  pub read : List ℕ
+  pub taken : IsTrue in0.tells → in0.holds ≡ read ++ in1.holds
+  pub size : length read ≡ count
+  pub source : SourceSteady in0 in1
+  pub mid : SinkState
+  pub opened : Took out0 mid (text_of opening) []
+  pub before : SinkSteady out0 mid
+  pub behind : SinkSteady mid out1
+  pub run : BytesRun old new mid out1 [] read line
 
 -- ---- counts
 

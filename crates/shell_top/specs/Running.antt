@@ -1,9 +1,9 @@
 -- How far a run has come: the lines cut so far, the replies to them, and what the sink has taken of those.
-use Rattle.std.specs.Prelude.{◌≡◌, ℕ, List, [], ◌++◌, length, IsTrue}
-use Rattle.shell_top.specs.Ends.{SourceState, SourceSteady, SinkState, SinkSteady}
+use Rattle.std.specs.Prelude.{◌≡◌, ℕ, List, [], ◌++◌, IsTrue}
+use Rattle.shell_top.specs.Ends.{SinkState}
 use Rattle.shell_top.specs.Line.{Cuts}
 use Rattle.shell_top.specs.Machine.{Machine, Run}
-use Rattle.shell_top.specs.Reply.{text_of, texts_of}
+use Rattle.shell_top.specs.Reply.{texts_of}
 use Rattle.shell_top.specs.declared.reply.Reply.{Reply}
 
 -- the sink has taken these bytes but for a rest
@@ -48,15 +48,3 @@ pub record BytesStopped (old new : Machine) (out0 out1 : SinkState) (before byte
   pub after : List ℕ
   pub cuts : Cuts (before ++ front) lines after
   pub some : SomeRun old new out0 out1 lines
-
--- the reply to the opening was taken whole, and what was read behind it was run, but for the rest of a line
-pub record ReadOn (opening : Reply) (old new : Machine) (in0 in1 : SourceState) (out0 out1 : SinkState) (count : ℕ) (line : List ℕ) : Type 0 where
-  pub read : List ℕ
-  pub taken : IsTrue in0.tells → in0.holds ≡ read ++ in1.holds
-  pub size : length read ≡ count
-  pub source : SourceSteady in0 in1
-  pub mid : SinkState
-  pub opened : Took out0 mid (text_of opening) []
-  pub before : SinkSteady out0 mid
-  pub behind : SinkSteady mid out1
-  pub run : BytesRun old new mid out1 [] read line

@@ -3,11 +3,11 @@ use Rattle.std.proofs.lemmas.List.{take-append-le}
 use Rattle.shell_top.specs.Line.{last_line}
 use Rattle.shell_top.specs.Ends.{Gives}
 use Rattle.shell_top.specs.Reply.{text_of}
-use Rattle.shell_top.specs.Running.{AllRun, SomeRun, ReadOn, BytesRun, BytesStopped}
+use Rattle.shell_top.specs.Running.{AllRun, SomeRun, BytesRun, BytesStopped}
 use Rattle.shell_top.specs.Stands.{machine, end_status}
 use Rattle.shell_top.specs.Status.{halt_status}
 use Rattle.shell_top.proofs.RunLemmas.{took_as, took_some_as, steady_on, steady_same}
-use Rattle.shell_top.proofs.ReadLemmas.{read_begin, read_more, opening_cut, piece_cut, last_cut, ended_went, went_by, no_feed_in_none, nil_length}
+use Rattle.shell_top.proofs.ReadLemmas.{ReadOn, read_begin, read_more, opening_cut, piece_cut, last_cut, ended_went, went_by, no_feed_in_none, nil_length}
 use Rattle.shell_top.proofs.top.answer_all.Goals as goal
 
 pub returns-in-Err-clause-went : goal.returns-in-Err-clause-went

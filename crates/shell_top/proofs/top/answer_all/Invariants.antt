@@ -1,7 +1,7 @@
 use Rattle.std.proofs.Common.{◌-◌, ◌≡◌, ◌+◌, ◌*◌, ◌≤◌, length}
 use Rattle.vfs_trait.specs.State.{Steady}
 use Rattle.shell_top.specs.Line.{HasNoFeed}
-use Rattle.shell_top.specs.Running.{ReadOn}
+use Rattle.shell_top.proofs.ReadLemmas.{ReadOn}
 use Rattle.shell_top.specs.Stands.{machine, Stands, rows_len}
 use Rattle.shell_top.proofs.top.answer_all.Given as goal
 

@@ -6,3 +6,4 @@ pub mod Header
 pub mod HeaderSteps
 pub mod Create
 pub mod CreateSteps
+pub mod Spill

@@ -1,6 +1,6 @@
 //! A list of bytes, and a list of such lists.
 
-ghost use Rattle.std.specs.Prelude.{◌≡◌, ℕ, List, [], ◌∷◌, ◌++◌, OnOk, OnErr};
+ghost use Rattle.std.specs.Prelude.{◌≡◌, ℕ, List, [], ◌∷◌, ◌++◌, take, OnOk, OnErr};
 
 use std::alloc::AllocError;
 use std::marker::Model;
@@ -39,6 +39,21 @@ impl Bytes {
     {
         self.items.push(item)?;
         Ok(())
+    }
+
+    /// Puts bytes at the end. Without memory the bytes stay as they were.
+    pub fn extend_from_slice(&mut self, more: &[u8]) -> Result<(), AllocError>
+        ensures ok { OnOk result (self.new ≡ self.old ++ more.now) }
+        ensures err { OnErr result (self.new ≡ self.old) }
+    {
+        self.items.extend_from_slice(more)
+    }
+
+    /// Keeps the first `len` bytes, or all where there are no more.
+    pub fn truncate(&mut self, len: usize)
+        ensures { self.new ≡ take len self.old }
+    {
+        self.items.truncate(len);
     }
 }
 
@@ -88,6 +103,10 @@ mod tests {
     fn lists_grow(rt: HostRuntime) -> Result<(), Fail> {
         let mut bytes = Bytes::from_vec(Vec::new(rt.alloc()));
         bytes.push(7)?;
+        assert!(rt; bytes.as_slice() == [7].as_slice());
+        bytes.extend_from_slice(&[8, 9])?;
+        assert!(rt; bytes.as_slice() == [7, 8, 9].as_slice());
+        bytes.truncate(1);
         assert!(rt; bytes.as_slice() == [7].as_slice());
         let mut lists = ByteLists::from_vec(Vec::new(rt.alloc()));
         lists.push(bytes)?;

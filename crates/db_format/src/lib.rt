@@ -10,6 +10,7 @@ mod fault;
 mod header;
 mod record;
 mod report;
+mod spill;
 mod table_list;
 mod value;
 mod varint;
@@ -22,6 +23,7 @@ pub use header::{
 };
 pub use record::{one_record, read_record, write_record};
 pub use report::{Report, Why};
+pub use spill::local_size;
 pub use table_list::{TableEntry, TableList};
 pub use value::{Record, Value};
 pub use varint::{one_spelling, one_varint, put_varint, read_varint};

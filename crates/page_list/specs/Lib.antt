@@ -1,0 +1,3 @@
+pub mod Pages
+pub mod Freelist
+pub mod Chain

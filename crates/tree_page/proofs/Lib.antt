@@ -1,0 +1,13 @@
+pub mod OneLemmas
+pub mod PageLemmas
+pub mod FindLemmas
+pub mod ClearLemmas
+pub mod NextLemmas
+pub mod ReadLemmas
+pub mod WrittenLemmas
+pub mod FillLemmas
+pub mod TextLemmas
+pub mod FitLemmas
+pub mod CellLemmas
+pub mod LayLemmas
+pub mod SizeLemmas

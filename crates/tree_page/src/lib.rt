@@ -1,0 +1,18 @@
+//! The pages of table b-trees: read as lists of cells, whatever their bytes are, and written from such lists.
+//!
+//! After sqlite.org, "Database File Format", section 1.6.
+#![tactic(auto)]
+
+mod cell;
+mod marks;
+mod put;
+mod read;
+mod room;
+#[cfg(test)]
+mod tests;
+mod write;
+
+pub use cell::{InnerCell, InnerCells, LeafCell, LeafCells, PageCells};
+pub use read::{one_page, read_page};
+pub use room::fits;
+pub use write::write_page;

@@ -1,0 +1,7 @@
+pub mod MemoryLemmas
+pub mod EditLemmas
+pub mod StateLemmas
+pub mod ChangeLemmas
+pub mod StepLemmas
+pub mod FreelistLemmas
+pub mod AnswerLemmas

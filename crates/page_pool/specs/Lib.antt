@@ -1,0 +1,5 @@
+pub mod Space
+pub mod Pool
+pub mod Memory
+pub mod Edits
+pub mod Steps

@@ -1,0 +1,37 @@
+use Rattle.std.proofs.Common.{◌≡◌, ◌+◌, ◌∙◌, ◌++◌, ◌∷◌, [], length, length-append, arith, rules, ap}
+use Rattle.payload_chain.specs.Steps.{TakeRefused}
+use Rattle.payload_chain.proofs.WalkLemmas.{if_err, steady-on}
+use Rattle.payload_chain.proofs.TakeLemmas.{take-refused, taken-on, each-taken}
+use Rattle.payload_chain.proofs.write.take_pages.Goals as goal
+
+pub loop-preserved : goal.loop-preserved
+loop-preserved g c =
+    let state = g.S.PageSpace.state in
+    let old = state c.args.space.now in
+    let now = state c.loop.space in
+    let new = state c.take_page.new.space in
+    let grow : c.push.new.self.items ≡ c.loop.numbers.items ++ c.in_ok-number.number ∷ [] = search rules in
+    let before = c.loop.invariant.no_fewer in
+    let then = c.in_ok-number.ensures.no_fewer in
+    record {
+      steady = steady-on old now new c.loop.invariant.steady c.in_ok-number.ensures.steady;
+      no_fewer = omega arith;
+      stays_changed = λ was. c.in_ok-number.ensures.stays_changed (c.loop.invariant.stays_changed was);
+      as_many = ap (λ l. length l) grow ∙ length-append c.loop.numbers.items (c.in_ok-number.number ∷ []) ∙ ap (λ n. n + 1) c.loop.invariant.as_many;
+      there = each-taken now.pages new.pages c.loop.numbers.items c.push.new.self.items c.in_ok-number.number c.loop.invariant.there then c.in_ok-number.ensures.within grow;
+      told = taken-on old now new c.loop.numbers.items c.push.new.self.items c.in_ok-number.number c.loop.invariant.steady c.in_ok-number.ensures.steady grow
+          c.loop.invariant.told c.in_ok-number.ensures.cause c.in_ok-number.ensures.freelist;
+    }
+
+pub returns-in_err-number-clause-cause : goal.returns-in_err-number-clause-cause
+returns-in_err-number-clause-cause g c =
+    let state = g.S.PageSpace.state in
+    let old = state c.args.space.now in
+    let now = state c.loop.space in
+    let new = state c.take_page.new.space in
+    let many = c.loop.invariant.as_many in
+    let below = c.loop-test.true in
+    if_err c.from_residual.result c.in_err-number.field-0.0 (TakeRefused old new c.args.count)
+    c.from_residual.ensures.1
+    (take-refused old now new c.loop.numbers.items c.args.count c.in_err-number.field-0.0 (omega arith) c.loop.invariant.no_fewer c.loop.invariant.steady
+    c.in_err-number.ensures.steady c.loop.invariant.told c.in_err-number.ensures.cause c.in_err-number.ensures.untouched)

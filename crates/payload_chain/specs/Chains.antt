@@ -1,0 +1,200 @@
+-- What reading, freeing and writing an overflow chain answer and leave.
+-- After sqlite.org, "Database File Format", section 1.6, "Cell Payload Overflow Pages", and 1.5, "The Freelist".
+use Rattle.std.specs.Prelude.{◌≡◌, ◌≢◌, ◌⊎◌, ℕ, zero, suc, ◌+◌, ◌*◌, ◌≤◌, ◌<◌, List, [], ◌∷◌, ◌++◌, length, map, Some, IsTrue}
+use Rattle.page_list.specs.Pages.{Pages, SamePage, Among}
+use Rattle.page_list.specs.Freelist.{Trunk, IsFreelist, first_trunk, free_pages}
+use Rattle.page_list.specs.Chain.{IsChain, BreaksAt, FailsAt, pages_needed}
+use Rattle.page_pool.specs.Space.{SpaceState, Stays, Rose}
+use Rattle.page_pool.specs.Pool.{Gave, GivesTo, Took, TakesFrom, NoTrunk, BadTrunk, NoLeaf, give_to, take_from, taken_page}
+use Rattle.db_format.specs.Header.{greatest_length}
+use Rattle.db_format.specs.declared.fault.SpaceFault.{SpaceFault}
+use Rattle.db_format.specs.declared.fault.SpaceFault.TheVariants.{Failed, Memory, Bad, Corrupt, Large}
+
+-- the chain of so many bytes is there, and they were put behind the bytes that were there before
+pub record Found (pages : Pages) (first len : ℕ) (before after : List ℕ) : Type 0 where
+  pub numbers : List ℕ
+  pub payload : List ℕ
+  pub chain : IsChain pages first numbers payload
+  pub long : length payload ≡ len
+  pub behind : after ≡ before ++ payload
+
+-- why a chain could not be read: Bad where a page of it fails, Corrupt where it is broken
+abbrev pub ReadRefused : SpaceState → SpaceState → ℕ → ℕ → SpaceFault → Type 0
+ReadRefused old new first len Failed = Rose old new
+ReadRefused old new first len Memory = Unit {0}
+ReadRefused old new first len (Bad page kept found) = IsTrue old.tells → FailsAt old.pages first len page (kept, found)
+ReadRefused old new first len (Corrupt page) = IsTrue old.tells → BreaksAt old.pages first len page
+ReadRefused old new first len (Large pages) = ⊥
+
+-- a page was given, and the usable size stays
+pub record GaveOne (old new : Pages) (number : ℕ) : Type 0 where
+  pub gave : Gave old new number
+  pub gives : GivesTo old new number
+  pub size : new.size ≡ old.size
+  pub used : new.usable ≡ old.usable
+
+-- these pages were given, one after the other
+abbrev pub AfterGives : Pages → List ℕ → Pages → Type 0
+AfterGives old [] new = new ≡ old
+AfterGives old (number ∷ more) new = (next : Pages) × GaveOne old next number × AfterGives next more new
+
+-- the freelist with these pages given to it, one after the other
+abbrev pub give_each : ℕ → List ℕ → List Trunk → List Trunk
+give_each usable [] trunks = trunks
+give_each usable (number ∷ more) trunks = give_each usable more (give_to usable number trunks)
+
+-- none of the pages is page 1 or stands in the freelist
+pub record AreApart (numbers : List ℕ) (trunks : List Trunk) : Type 0 where
+  pub each : (number : ℕ) → Among numbers number → (2 ≤ number) × ¬ (Among (free_pages trunks) number)
+
+-- page 1 is neither the first trunk nor one of the pages; it is only in a damaged database
+pub record SparesFirst (pages : Pages) (numbers : List ℕ) : Type 0 where
+  pub trunk : first_trunk pages ≢ 1
+  pub page : ¬ (Among numbers 1)
+
+-- the chain of so many bytes was there, and each page of it was given, in order. No page but page 1, the first
+-- trunk and those of the chain has changed, and where the pages had a freelist apart from the chain, it now has them
+pub record Freed (old new : Pages) (first len : ℕ) : Type 0 where
+  pub numbers : List ℕ
+  pub payload : List ℕ
+  pub chain : IsChain old first numbers payload
+  pub long : length payload ≡ len
+  pub gave : AfterGives old numbers new
+  pub others : SparesFirst old numbers → (number : ℕ) → number ≢ 1 → number ≢ first_trunk old → ¬ (Among numbers number) → SamePage old new number
+  pub freelist : (trunks : List Trunk) → IsFreelist old trunks → AreApart numbers trunks → IsFreelist new (give_each old.usable numbers trunks)
+
+-- the chain of so many bytes was there, some of its pages were given, and the next, this one, over these pages
+pub record Gives (old : Pages) (first len : ℕ) (met : Pages) (number : ℕ) : Type 0 where
+  pub given : List ℕ
+  pub more : List ℕ
+  pub payload : List ℕ
+  pub chain : IsChain old first (given ++ number ∷ more) payload
+  pub long : length payload ≡ len
+  pub gave : AfterGives old given met
+
+-- giving one of them met a first trunk that is out of range or malformed: never where the pages had a freelist apart
+-- from the chain
+pub record GiveBreaks (old : Pages) (first len page : ℕ) : Type 0 where
+  pub met : Pages
+  pub number : ℕ
+  pub gives : Gives old first len met number
+  pub why : NoTrunk met page ⊎ BadTrunk met page
+  pub damaged : (trunks : List Trunk) → IsFreelist old trunks → ¬ (AreApart (gives.given ++ number ∷ gives.more) trunks)
+
+-- giving one of them met a page that fails its checksum: page 1, the first trunk, or the page itself
+pub record GiveFails (old : Pages) (first len page : ℕ) (sums : ℕ × ℕ) : Type 0 where
+  pub met : Pages
+  pub number : ℕ
+  pub gives : Gives old first len met number
+  pub which : (page ≡ 1) ⊎ ((page ≡ first_trunk met) ⊎ (page ≡ number))
+  pub fails : met.bad page ≡ Some sums
+
+-- why a chain could not be freed: as for reading, and then nothing has changed; or a page of it could not be given
+abbrev pub FreeRefused : SpaceState → SpaceState → ℕ → ℕ → SpaceFault → Type 0
+FreeRefused old new first len Failed = Rose old new
+FreeRefused old new first len Memory = Unit {0}
+FreeRefused old new first len (Bad page kept found) =
+    IsTrue old.tells → (FailsAt old.pages first len page (kept, found) × Stays old new) ⊎ GiveFails old.pages first len page (kept, found)
+FreeRefused old new first len (Corrupt page) =
+    IsTrue old.tells → (BreaksAt old.pages first len page × Stays old new) ⊎ GiveBreaks old.pages first len page
+FreeRefused old new first len (Large pages) = ⊥
+
+-- a page was taken, from a space that tells what it holds
+pub record TookOne (old new : SpaceState) (number : ℕ) : Type 0 where
+  pub told : IsTrue old.tells
+  pub took : Took old new number
+  pub takes : TakesFrom old.pages new.pages number
+  pub used : new.pages.usable ≡ old.pages.usable
+
+-- these pages were taken, one after the other
+abbrev pub AfterTakes : SpaceState → List ℕ → SpaceState → Type 0
+AfterTakes old [] new = new ≡ old
+AfterTakes old (number ∷ more) new = (next : SpaceState) × TookOne old next number × AfterTakes next more new
+
+-- the freelist after so many pages are taken from it, and how many pages there are then
+abbrev pub take_each : ℕ → List Trunk → List Trunk
+take_each zero trunks = trunks
+take_each (suc count) trunks = take_each count (take_from trunks)
+
+abbrev pub size_after : ℕ → List Trunk → ℕ
+size_after size [] = size + 1
+size_after size (trunk ∷ more) = size
+
+-- the pages that are taken, in order: those of the freelist, and behind the last page once it is empty
+abbrev pub taken_pages : ℕ → ℕ → List Trunk → List ℕ
+taken_pages size zero trunks = []
+taken_pages size (suc count) trunks = taken_page size trunks ∷ taken_pages (size_after size trunks) count (take_from trunks)
+
+-- the numbers of the trunks
+abbrev pub trunk_numbers : List Trunk → List ℕ
+trunk_numbers trunks = map (λ trunk. trunk.number) trunks
+
+-- the pages had this freelist: these are the pages that it gives, the rest of it is left, and the chain is in
+-- them and holds these bytes. No page but page 1, the trunks and those of the chain has changed
+pub record WroteInto (old new : Pages) (trunks : List Trunk) (first : ℕ) (numbers payload : List ℕ) : Type 0 where
+  pub taken : numbers ≡ taken_pages old.size (length numbers) trunks
+  pub left : IsFreelist new (take_each (length numbers) trunks)
+  pub chain : IsChain new first numbers payload
+  pub others : (number : ℕ) → number ≢ 1 → ¬ (Among (trunk_numbers trunks) number) → ¬ (Among numbers number) → SamePage old new number
+
+-- as many pages as the bytes need were taken, and after that only they were changed; what they hold then is said
+-- where the pages had a freelist, since a damaged one may give a page twice
+pub record Wrote (old new : SpaceState) (first : ℕ) (payload : List ℕ) : Type 0 where
+  pub numbers : List ℕ
+  pub met : SpaceState
+  pub took : AfterTakes old numbers met
+  pub enough : length numbers ≡ pages_needed old.pages.usable (length payload)
+  pub size : new.pages.size ≡ met.pages.size
+  pub others : (number : ℕ) → ¬ (Among numbers number) → SamePage met.pages new.pages number
+  pub freelist : (trunks : List Trunk) → IsFreelist old.pages trunks → WroteInto old.pages new.pages trunks first numbers payload
+
+-- fewer pages than the bytes need were taken, and the next take met these pages
+pub record Takes (old : SpaceState) (len : ℕ) (met : SpaceState) : Type 0 where
+  pub taken : List ℕ
+  pub took : AfterTakes old taken met
+  pub fewer : length taken < pages_needed old.pages.usable len
+
+-- a take met a first trunk that is out of range or malformed, or whose last leaf is out of range: never where the
+-- pages had a freelist
+pub record TakeBreaks (old : SpaceState) (len page : ℕ) : Type 0 where
+  pub met : SpaceState
+  pub takes : Takes old len met
+  pub why : NoTrunk met.pages page ⊎ (BadTrunk met.pages page ⊎ NoLeaf met.pages page)
+  pub damaged : (trunks : List Trunk) → ¬ (IsFreelist old.pages trunks)
+
+-- a take met a page that fails its checksum: page 1 or the first trunk
+pub record TakeFails (old : SpaceState) (len page : ℕ) (sums : ℕ × ℕ) : Type 0 where
+  pub met : SpaceState
+  pub takes : Takes old len met
+  pub which : (page ≡ 1) ⊎ (page ≡ first_trunk met.pages)
+  pub fails : met.pages.bad page ≡ Some sums
+
+-- one of the pages taken fails its checksum, and could not be put
+pub record PutFails (old : SpaceState) (len page : ℕ) (sums : ℕ × ℕ) : Type 0 where
+  pub numbers : List ℕ
+  pub met : SpaceState
+  pub took : AfterTakes old numbers met
+  pub enough : length numbers ≡ pages_needed old.pages.usable len
+  pub one : Among numbers page
+  pub fails : met.pages.bad page ≡ Some sums
+
+-- a take met an empty freelist
+pub record TakeEmpty (old : SpaceState) (len : ℕ) : Type 0 where
+  pub met : SpaceState
+  pub takes : Takes old len met
+  pub empty : first_trunk met.pages ≡ 0
+
+-- so many pages, one more than there then are, pass the greatest database, and the freelist had no page
+pub record TakeLarge (old new : SpaceState) (len pages : ℕ) : Type 0 where
+  pub more : old.pages.size < pages
+  pub large : greatest_length < pages * old.page_size
+  pub one_more : pages ≡ new.pages.size + 1
+  pub empty : IsTrue old.tells → TakeEmpty old len
+
+-- why a chain could not be written
+abbrev pub WriteRefused : SpaceState → SpaceState → ℕ → SpaceFault → Type 0
+WriteRefused old new len Failed = Rose old new
+WriteRefused old new len Memory = Unit {0}
+WriteRefused old new len (Bad page kept found) = IsTrue old.tells → TakeFails old len page (kept, found) ⊎ PutFails old len page (kept, found)
+WriteRefused old new len (Corrupt page) = IsTrue old.tells → TakeBreaks old len page
+WriteRefused old new len (Large pages) = TakeLarge old new len pages

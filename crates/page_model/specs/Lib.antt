@@ -1,0 +1,15 @@
+pub mod Tree
+pub mod Held
+pub mod Whole
+pub mod Database
+pub mod Need
+pub mod Walk
+pub mod Listed
+pub mod Plain
+pub mod Gathered
+pub mod GatherSteps
+pub mod FreeSteps
+pub mod Forest
+pub mod ForestSteps
+pub mod Steps
+pub mod Laws

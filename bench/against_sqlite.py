@@ -12,7 +12,8 @@ import subprocess
 import sys
 import tempfile
 
-TOP = os.path.dirname(os.path.dirname(os.path.abspath(__file__)))
+from sqlite_files import TOP, sqlite, varint
+
 PAGES = [512, 4096, 65536]
 ROWS = 120
 PLAIN = ["CREATE TABLE t(a)", "CREATE TABLE names ( first , last,middle )", "CREATE TABLE x_1(a1,b_2,c,d,e,f,g,h)"]
@@ -25,10 +26,6 @@ OTHER = [
     "CREATE INDEX i ON t(a)",
     "CREATE VIEW v AS SELECT a FROM t",
 ]
-
-
-def sqlite(path, sql):
-    return subprocess.run(["sqlite3", path], input=sql, capture_output=True, text=True, check=True).stdout
 
 
 def spelled(rng):
@@ -46,15 +43,6 @@ def spelled(rng):
     if kind == 4:
         return f"x'{data.hex()}'"
     return "'" + "".join(chr(0x20 + b % 95) for b in data).replace("'", "''") + "é" * rng.randrange(2) + "'"
-
-
-def varint(data, at):
-    value = 0
-    for i in range(8):
-        value = value << 7 | data[at + i] & 0x7F
-        if data[at + i] < 0x80:
-            return value, at + i + 1
-    return value << 8 | data[at + 8], at + 9
 
 
 def records(data, size, number):

@@ -19,14 +19,11 @@ import subprocess
 import sys
 import tempfile
 
-TOP = os.path.dirname(os.path.dirname(os.path.abspath(__file__)))
+from sqlite_files import TOP, sqlite, varint
+
 PAGES = {512: (900, 1500), 1024: (300, 900), 4096: (200, 600), 65536: (120, 300)}  # rows at first, and changes then
 TABLES = 9
 GAP = 12  # so many zeros are left out of a literal
-
-
-def sqlite(path, sql):
-    return subprocess.run(["sqlite3", path], input=sql, capture_output=True, text=True, check=True).stdout
 
 
 # What sqlite3 is told.
@@ -146,15 +143,6 @@ def put_varint(value):
 
 def big(data, at, size):
     return int.from_bytes(data[at : at + size], "big")
-
-
-def varint(data, at):
-    value = 0
-    for i in range(8):
-        value = value << 7 | data[at + i] & 0x7F
-        if data[at + i] < 0x80:
-            return value, at + i + 1
-    return value << 8 | data[at + 8], at + 9
 
 
 def signed(value):

@@ -55,7 +55,7 @@ takes_trunk old new first mid last trunk next count some holds read names none n
   within = record { least = read.there.least; most = omega (arith, read.there.most, written.size) };
   no_fewer = omega (arith, written.size);
   done = written.done;
-  stays_changed = written.stays_changed;
+  noted = written.noted;
 }
 
 pub takes_leaf : (old new : SpaceState) (first last page : List ℕ) (trunk : TrunkPage) (leaf less count : ℕ) → 1 ≤ old.pages.size → ReadsPage old 1 first
@@ -80,7 +80,7 @@ takes_leaf old new first last page trunk leaf less count some holds read names l
   within = record { least = there.least; most = omega (arith, there.most, written.size) };
   no_fewer = omega (arith, written.size);
   done = written.done;
-  stays_changed = written.stays_changed;
+  noted = written.noted;
 }
 
 -- a write that was refused
@@ -98,7 +98,7 @@ gives_refused old new number other page last fault steady which cause written gi
   };
   untouched = written.untouched;
   done = tt;
-  stays_changed = written.stays_changed;
+  noted = written.noted;
 }
 
 -- its cause
@@ -128,7 +128,7 @@ gives_leaf_ok old new first last mid page trunk number more count holds read nam
   refused = λ _. tt;
   untouched = tt;
   done = written.done;
-  stays_changed = written.stays_changed;
+  noted = written.noted;
 }
 
 gives_trunk_ok : (old new : SpaceState) (first mid last zeros page : List ℕ) (size number next count : ℕ) → ReadsPage old 1 first
@@ -146,7 +146,7 @@ gives_trunk_ok old new first mid last zeros page size number next count holds no
   refused = λ _. tt;
   untouched = tt;
   done = written.done;
-  stays_changed = written.stays_changed;
+  noted = written.noted;
 }
 
 pub gives_leaf : (old new : SpaceState) (first last mid page : List ℕ) (trunk : TrunkPage) (number more count : ℕ) (result : Result Unit SpaceFault) → ReadsPage old 1 first

@@ -139,9 +139,9 @@ Untouched old new (Err (Bad page kept found)) = IsTrue old.tells → Stays old n
 Untouched old new (Err (Corrupt page)) = Stays old new
 Untouched old new (Err (Large pages)) = Stays old new
 
--- the space is never taken for unchanged where it was changed
-abbrev pub StaysChanged : SpaceState → SpaceState → Type 0
-StaysChanged old new = IsTrue old.changed → IsTrue new.changed
+-- the space says that it was changed, or nothing has changed; so where it said so before, it still does
+abbrev pub NotesChange : SpaceState → SpaceState → Type 0
+NotesChange old new = IsTrue new.changed ⊎ Stays old new
 
 -- what a refused call may have left: no page but these has changed, and none was added
 pub record OnlyThree (old new : Pages) (a b c : ℕ) : Type 0 where

@@ -3,7 +3,7 @@ use Rattle.std.specs.Prelude.{◌≡◌, ◌≢◌, ℕ, ◌≤◌, ◌<◌, ◌
 use Rattle.page_list.specs.Pages.{Pages, HasPage, IsGood, number_in}
 use Rattle.page_list.specs.Freelist.{first_trunk, leaf_count, most_leaves}
 use Rattle.page_pool.specs.Space.{SpaceState, HasSizes, Steady, Stays, Rose, Fails}
-use Rattle.page_pool.specs.Pool.{OnlyTwo, OnlyThree, NoTrunk, BadTrunk, TakeCause, GiveCause, Untouched, StaysChanged}
+use Rattle.page_pool.specs.Pool.{OnlyTwo, OnlyThree, NoTrunk, BadTrunk, TakeCause, GiveCause, Untouched, NotesChange}
 use Rattle.db_format.specs.declared.fault.SpaceFault.{SpaceFault}
 use Rattle.db_format.specs.declared.fault.SpaceFault.TheVariants.{Failed, Memory, Bad, Corrupt, Large}
 use Rattle.page_pool.specs.declared.head.Head.{Head}
@@ -83,7 +83,7 @@ pub record WritesBoth (usable : ℕ) (old new : Pages) (number : ℕ) (content f
 pub record PageWritten (old new : SpaceState) (number : ℕ) (content : List ℕ) (result : Result Unit SpaceFault) : Type 0 where
   pub size : new.pages.size ≡ old.pages.size
   pub done : OnOk result (IsTrue new.changed)
-  pub stays_changed : StaysChanged old new
+  pub noted : NotesChange old new
   pub written : IsTrue old.tells → OnOk result (WritesPage old.pages.usable old.pages new.pages number content)
   pub refused : OnErr result (Stays old new)
 
@@ -91,7 +91,7 @@ pub record PageWritten (old new : SpaceState) (number : ℕ) (content : List ℕ
 pub record BothWritten (old new : SpaceState) (number : ℕ) (content first : List ℕ) (result : Result Unit SpaceFault) : Type 0 where
   pub size : new.pages.size ≡ old.pages.size
   pub done : OnOk result (IsTrue new.changed)
-  pub stays_changed : StaysChanged old new
+  pub noted : NotesChange old new
   pub written : IsTrue old.tells → OnOk result (WritesBoth old.pages.usable old.pages new.pages number content first)
   pub refused : IsTrue old.tells → OnErr result (OnlyTwo old.pages new.pages 1 number)
   pub untouched : Untouched old new result
@@ -114,7 +114,7 @@ pub record Takes (old new : SpaceState) (result : Result ℕ SpaceFault) : Type 
   pub within : IfOk result (HasPage new.pages)
   pub no_fewer : old.pages.size ≤ new.pages.size
   pub done : OnOk result (IsTrue new.changed)
-  pub stays_changed : StaysChanged old new
+  pub noted : NotesChange old new
 
 -- and of giving one
 pub record Gives (old new : SpaceState) (number : ℕ) (result : Result Unit SpaceFault) : Type 0 where
@@ -124,4 +124,4 @@ pub record Gives (old new : SpaceState) (number : ℕ) (result : Result Unit Spa
   pub refused : IsTrue old.tells → OnErr result (OnlyThree old.pages new.pages 1 (first_trunk old.pages) number)
   pub untouched : Untouched old new result
   pub done : OnOk result (IsTrue new.changed)
-  pub stays_changed : StaysChanged old new
+  pub noted : NotesChange old new

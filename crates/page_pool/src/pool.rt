@@ -4,7 +4,7 @@ ghost use Rattle.std.specs.Prelude.{◌≡◌, ℕ, ◌+◌, ◌-◌, ◌*◌, �
 ghost use Rattle.page_list.specs.Pages.{HasPage, number_in};
 ghost use Rattle.page_list.specs.Freelist.{first_trunk, full};
 ghost use Rattle.page_pool.specs.Space.{IsWritable, Steady};
-ghost use Rattle.page_pool.specs.Pool.{TakeCause, GiveCause, OnlyTwo, OnlyThree, NoRoom, Untouched, TakesFrom, GivesTo, StaysChanged};
+ghost use Rattle.page_pool.specs.Pool.{TakeCause, GiveCause, OnlyTwo, OnlyThree, NoRoom, Untouched, TakesFrom, GivesTo, NotesChange};
 ghost use Rattle.page_pool.specs.Steps.{ReadsPage, ReadsTrunk, Names, Takes, Gives};
 ghost use Rattle.page_pool.specs.Edits.{Sets};
 
@@ -35,7 +35,7 @@ pub fn take_page<S: PageSpace>(alloc: Global, space: &mut S) -> Result<u32, Spac
     ensures within { IfOk result (HasPage (S.state space.new).pages) }
     ensures no_fewer { (S.state space.old).pages.size ≤ (S.state space.new).pages.size }
     ensures changed { IfOk result (λ _. IsTrue (S.state space.new).changed) }
-    ensures stays_changed { StaysChanged (S.state space.old) (S.state space.new) }
+    ensures noted { NotesChange (S.state space.old) (S.state space.new) }
 {
     let Head { first, trunk } = read_head(alloc, space)?;
     match trunk {
@@ -61,7 +61,7 @@ pub fn give_page<S: PageSpace>(alloc: Global, space: &mut S, number: u32) -> Res
     ensures untouched { Untouched (S.state space.old) (S.state space.new) result }
     ensures freelist { IsTrue (S.state space.old).tells → OnOk result (GivesTo (S.state space.old).pages (S.state space.new).pages number) }
     ensures changed { OnOk result (IsTrue (S.state space.new).changed) }
-    ensures stays_changed { StaysChanged (S.state space.old) (S.state space.new) }
+    ensures noted { NotesChange (S.state space.old) (S.state space.new) }
 {
     let Head { first, trunk } = read_head(alloc, space)?;
     match trunk {

@@ -1,18 +1,20 @@
 -- Lemmas for pages that are given, one after the other.
-use Rattle.std.proofs.Common.{◌≡◌, ◌≢◌, ◌⊎◌, inl, inr, ℕ, ◌+◌, ◌≤◌, ◌<◌, List, [], ◌∷◌, ◌++◌, length, take, drop, slice_index, refl, sym, ◌∙◌, subst, arith, IsTrue, Err, Some}
+use Rattle.std.proofs.Common.{◌≡◌, ◌≢◌, ◌⊎◌, inl, inr, ℕ, ◌+◌, ◌-◌, ◌*◌, ◌≤◌, ◌<◌, mul-zero, List, [], ◌∷◌, ◌++◌, length, take, drop, slice_index, refl, sym, ap, ◌∙◌, subst, arith, IsTrue, Err, Some}
 use Rattle.page_list.specs.Pages.{Pages, HasPage, SamePage, Among, AllDifferent}
 use Rattle.page_list.specs.Freelist.{Trunk, IsFreelist, first_trunk, free_pages}
-use Rattle.page_list.specs.Chain.{IsChain}
-use Rattle.page_list.proofs.ChainLemmas.{times-append, among-here, among-front, among-cons}
-use Rattle.page_pool.specs.Space.{SpaceState, HasSizes, Steady, Stays}
-use Rattle.page_pool.specs.Pool.{Gave, GivesTo, GiveCause, NoTrunk, BadTrunk, AtWords, give_to}
-use Rattle.payload_chain.specs.Chains.{GaveOne, AfterGives, AreApart, SparesFirst, Freed, Gives, FreeRefused, ReadRefused, give_each}
+use Rattle.page_list.specs.Chain.{IsChain, pages_needed}
+use Rattle.std.specs.Int.{div_ceil}
+use Rattle.std.proofs.lemmas.Bool.{cases_lt}
+use Rattle.page_list.proofs.ChainLemmas.{times-append, among-here, among-front, among-back, among-cons}
+use Rattle.page_pool.specs.Space.{SpaceState, HasSizes, Steady, PagesStay, Stays}
+use Rattle.page_pool.specs.Pool.{Gave, GivesTo, GiveCause, NoTrunk, BadTrunk, OnlyThree, Untouched, AtWords, give_to}
+use Rattle.payload_chain.specs.Chains.{GaveOne, AfterGives, AreApart, SparesFirst, OnlyGiven, Freed, Gives, FreeRefused, FreeLeaves, ReadRefused, give_each}
 use Rattle.payload_chain.proofs.ListLemmas.{take-next, split-at}
 use Rattle.payload_chain.proofs.FreelistLemmas.{no_trunk, bad_trunk, give_to-times, word-at, not_among_more}
-use Rattle.payload_chain.proofs.WalkLemmas.{rose-on, tells-on, pages-same}
+use Rattle.payload_chain.proofs.WalkLemmas.{rose-on, tells-on, pages-same, needed_is, needed_enough}
 use Rattle.db_format.specs.declared.fault.SpaceFault.{SpaceFault}
 use Rattle.db_format.specs.declared.fault.SpaceFault.TheVariants.{Failed, Memory, Bad, Corrupt, Large}
-use Rattle.payload_chain.specs.Steps.{HasEach, HasPages, GiveStops, GiveRefused}
+use Rattle.payload_chain.specs.Steps.{HasEach, HasPages, GiveStops, GiveRefused, GiveLeaves}
 
 -- one more is given
 pub gives-more : (old now new : Pages) (numbers : List ℕ) (n : ℕ) → AfterGives old numbers now → GaveOne now new n → AfterGives old (numbers ++ n ∷ []) new
@@ -25,10 +27,10 @@ page-later old now n same there = record { least = there.least; most = omega (ar
 
 pub give-refused : (old now new : SpaceState) (numbers : List ℕ) (i x : ℕ) (fault : SpaceFault) → i < length numbers → x ≡ slice_index numbers i
     → Steady old now → (IsTrue old.tells → AfterGives old.pages (take i numbers) now.pages) → GiveCause now new x (Err fault)
-    → GiveRefused old new numbers fault
-give-refused old now new numbers i x Failed below is steady after cause = rose-on old now new steady cause
-give-refused old now new numbers i x Memory below is steady after cause = tt
-give-refused old now new numbers i x (Bad page kept found) below is steady after cause = λ t.
+    → Untouched {T = Unit {0}} now new (Err fault) → GiveRefused old new numbers fault
+give-refused old now new numbers i x Failed below is steady after cause still = rose-on old now new steady cause
+give-refused old now new numbers i x Memory below is steady after cause still = tt
+give-refused old now new numbers i x (Bad page kept found) below is steady after cause still = λ t.
     let told = tells-on old now steady t in
     record {
       given = take i numbers;
@@ -37,18 +39,34 @@ give-refused old now new numbers i x (Bad page kept found) below is steady after
       are = split-at i numbers x below is;
       met = now.pages;
       gave = after t;
-      why = ((cause told).1, (cause told).0 told);
+      why = ((cause told).1, (cause told).0 told, (still told).pages_stay told);
     }
-give-refused old now new numbers i x (Corrupt page) below is steady after cause = λ t. record {
+give-refused old now new numbers i x (Corrupt page) below is steady after cause still = λ t.
+    let told = tells-on old now steady t in
+    record {
+      given = take i numbers;
+      number = x;
+      more = drop (i + 1) numbers;
+      are = split-at i numbers x below is;
+      met = now.pages;
+      gave = after t;
+      why = (cause told, still.pages_stay told);
+    }
+give-refused old now new numbers i x (Large pages) below is steady after cause still = absurd cause
+
+-- and what it leaves
+pub give-leaves : (old now new : SpaceState) (numbers : List ℕ) (i x : ℕ) → i < length numbers → x ≡ slice_index numbers i
+    → Steady old now → (IsTrue old.tells → AfterGives old.pages (take i numbers) now.pages)
+    → (IsTrue now.tells → OnlyThree now.pages new.pages 1 (first_trunk now.pages) x) → IsTrue old.tells → GiveLeaves old.pages new.pages numbers
+give-leaves old now new numbers i x below is steady after only t = record {
   given = take i numbers;
   number = x;
   more = drop (i + 1) numbers;
   are = split-at i numbers x below is;
   met = now.pages;
   gave = after t;
-  why = cause (tells-on old now steady t);
+  why = only (tells-on old now steady t);
 }
-give-refused old now new numbers i x (Large pages) below is steady after cause = absurd cause
 
 pub given-on : (old now new : SpaceState) (numbers : List ℕ) (i x : ℕ) → i < length numbers → x ≡ slice_index numbers i → Steady old now → Steady now new
     → new.pages.size ≡ now.pages.size → (IsTrue old.tells → AfterGives old.pages (take i numbers) now.pages)
@@ -105,7 +123,7 @@ gave-first old new number (inl trunk) trunk_1 not_1 used = inl (trunk.is_first n
 gave-first old new number (inr leaf) trunk_1 not_1 used =
     inr (word-at (old.bytes 1) (new.bytes 1) 32 (λ place from below. (leaf.in_first trunk_1).others place (omega arith) (not_at_36 place below)))
 
-pub gives-others : (old new : Pages) (numbers : List ℕ) (n : ℕ) → AfterGives old numbers new → 36 ≤ old.usable → SparesFirst old numbers
+gives-others : (old new : Pages) (numbers : List ℕ) (n : ℕ) → AfterGives old numbers new → 36 ≤ old.usable → SparesFirst old numbers
     → n ≢ 1 → n ≢ first_trunk old → ¬ (Among numbers n) → SamePage old new n
 gives-others old new [] n after used spares n1 n2 n3 =
     let P : Pages → Type 0 = λ p. SamePage old p n in subst P (sym after) (record { bytes_stay = refl; mark_stays = refl })
@@ -124,6 +142,29 @@ gives-others old new (m ∷ more) n after used spares n1 n2 n3 =
           (record { trunk = λ e. spares.trunk (sym is ∙ e); page = spared }) n1 (λ e. n2 (e ∙ is)) (λ among. n3 (among-cons n m more among))
     ] in
     record { bytes_stay = rest.bytes_stay ∙ here.bytes_stay; mark_stays = rest.mark_stays ∙ here.mark_stays }
+
+-- and so the first trunk after some pages are given is the old one or one of them
+first-after : (old new : Pages) (numbers : List ℕ) → AfterGives old numbers new → 36 ≤ old.usable → SparesFirst old numbers
+    → (first_trunk new ≡ first_trunk old) ⊎ Among numbers (first_trunk new)
+first-after old new [] after used spares = inl (ap first_trunk after)
+first-after old new (m ∷ more) after used spares =
+    let next = after.0 in
+    let one = after.1 in
+    let m_not_1 : m ≢ 1 = λ is. spares.page (among-same 1 m more is) in
+    let spared : ¬ (Among more 1) = λ among. spares.page (among-cons 1 m more among) in
+    let later : ℕ = first_trunk new in
+    elim (gave-first old next m one.gave spares.trunk m_not_1 used) as (λ _. (later ≡ first_trunk old) ⊎ Among (m ∷ more) later) [
+      | inl is ↦ elim (first-after next new more after.2 (used-same old.usable next.usable one.used used) (record { trunk = λ e. m_not_1 (sym is ∙ e); page = spared }))
+          as (λ _. (later ≡ first_trunk old) ⊎ Among (m ∷ more) later) [
+            | inl same ↦ inr (among-same later m more (sym (same ∙ is)))
+            | inr among ↦ inr (among-cons later m more among)
+          ]
+      | inr is ↦ elim (first-after next new more after.2 (used-same old.usable next.usable one.used used) (record { trunk = λ e. spares.trunk (sym is ∙ e); page = spared }))
+          as (λ _. (later ≡ first_trunk old) ⊎ Among (m ∷ more) later) [
+            | inl same ↦ inl (same ∙ is)
+            | inr among ↦ inr (among-cons later m more among)
+          ]
+    ]
 
 -- what a chain that was freed leaves
 pub freed : (old mid new : SpaceState) (first len : ℕ) (numbers : List ℕ) → HasSizes old → Steady old mid → Stays old mid → HasPages old.pages first len numbers
@@ -151,13 +192,14 @@ abbrev gives-at : (old mid : SpaceState) (first len : ℕ) (numbers : List ℕ) 
 gives-at old mid first len numbers Why steady stays t has stops =
     let same : mid.pages ≡ old.pages = pages-same old.pages mid.pages steady.used (stays.pages_stay t) in
     let P : Pages → Type 0 = λ p. AfterGives p stops.given stops.met in
-    let Q : List ℕ → Type 0 = λ l. IsChain old.pages first l has.payload in
     record {
+      numbers = numbers;
+      payload = has.payload;
+      chain = has.chain;
+      long = has.long;
       given = stops.given;
       more = stops.more;
-      payload = has.payload;
-      chain = subst Q stops.are has.chain;
-      long = has.long;
+      are = stops.are;
       gave = subst P same stops.gave;
     }
 
@@ -168,12 +210,52 @@ front-apart given more trunks apart = record { each = λ n among. apart.each n (
 front-different : (given more : List ℕ) → AllDifferent (given ++ more) → AllDifferent given
 front-different given more different = record { once = λ n. let joined = times-append n given more in let once = different.once n in omega arith }
 
+-- a page given, or to be given next, is one of the chain
+given-among : (old met : Pages) (first len number n : ℕ) (gives : Gives old first len met number) → Among (gives.given ++ number ∷ []) n → Among gives.numbers n
+given-among old met first len number n gives among =
+    let P : List ℕ → Type 0 = λ l. Among l n in
+    let some = times-append n gives.given (number ∷ []) in
+    let all = times-append n gives.given (number ∷ gives.more) in
+    let rest = times-append n (number ∷ []) gives.more in
+    subst P (sym gives.are) (omega arith)
+
 no_give : (old met : Pages) (first len number : ℕ) (trunks : List Trunk) (gives : Gives old first len met number) → IsFreelist old trunks
-    → AreApart (gives.given ++ number ∷ gives.more) trunks → IsFreelist met (give_each old.usable gives.given trunks)
+    → AreApart gives.numbers trunks → IsFreelist met (give_each old.usable gives.given trunks)
 no_give old met first len number trunks gives free apart =
-    gives-freelist old met gives.given trunks gives.gave free (front-apart gives.given (number ∷ gives.more) trunks apart)
-    (record { each = λ n among. (gives.chain.walked.each n (among-front n gives.given (number ∷ gives.more) among)).0 })
-    (front-different gives.given (number ∷ gives.more) gives.chain.walked.different)
+    let P : List ℕ → Type 0 = λ l. AreApart l trunks in
+    let Q : List ℕ → Type 0 = λ l. AllDifferent l in
+    gives-freelist old met gives.given trunks gives.gave free (front-apart gives.given (number ∷ gives.more) trunks (subst P gives.are apart))
+    (record { each = λ n among. (gives.chain.walked.each n (given-among old met first len number n gives (among-front n gives.given (number ∷ []) among))).0 })
+    (front-different gives.given (number ∷ gives.more) (subst Q gives.are gives.chain.walked.different))
+
+-- what a chain that could not be given leaves
+some-others : (old met new : Pages) (first len number : ℕ) (gives : Gives old first len met number) → 36 ≤ old.usable
+    → OnlyThree met new 1 (first_trunk met) number → SparesFirst old gives.numbers → OnlyGiven old new gives.numbers
+some-others old met new first len number gives used only spares n n1 n2 n3 =
+    let given_among = λ (m : ℕ) (among : Among gives.given m). given-among old met first len number m gives (among-front m gives.given (number ∷ []) among) in
+    let spared : SparesFirst old gives.given = record { trunk = spares.trunk; page = λ among. spares.page (given_among 1 among) } in
+    let here = gives-others old met gives.given n gives.gave used spared n1 n2 (λ among. n3 (given_among n among)) in
+    let not_trunk : n ≢ first_trunk met = λ is. elim (first-after old met gives.given gives.gave used spared) as (λ _. ⊥) [
+      | inl same ↦ n2 (is ∙ same)
+      | inr among ↦ let P : ℕ → Type 0 = λ k. Among gives.numbers k in n3 (subst P (sym is) (given_among (first_trunk met) among))
+    ] in
+    let not_number : n ≢ number = λ is. n3 (given-among old met first len number n gives (among-back n gives.given (number ∷ []) (among-same n number [] (sym is)))) in
+    let later = only.each n n1 not_trunk not_number in
+    record { bytes_stay = later.bytes_stay ∙ here.bytes_stay; mark_stays = later.mark_stays ∙ here.mark_stays }
+
+pub free-leaves : (old mid new : SpaceState) (first len : ℕ) (numbers : List ℕ) → HasSizes old → Steady old mid → Stays old mid → HasPages old.pages first len numbers
+    → IsTrue old.tells → GiveLeaves mid.pages new.pages numbers → FreeLeaves old.pages new.pages first len
+free-leaves old mid new first len numbers sizes steady stays has t stops =
+    let gives = gives-at old mid first len numbers (λ met number. OnlyThree met new.pages 1 (first_trunk met) number) steady stays t has stops in
+    let least = sizes.least in
+    let used : 36 ≤ old.pages.usable = omega arith in
+    inr (record {
+      met = stops.met;
+      number = stops.number;
+      gives = gives;
+      only = stops.why;
+      others = some-others old.pages stops.met new.pages first len stops.number gives used stops.why;
+    })
 
 pub free-refused : (old mid new : SpaceState) (first len : ℕ) (numbers : List ℕ) (fault : SpaceFault) → Steady old mid → Stays old mid
     → (IsTrue old.tells → HasPages old.pages first len numbers) → GiveRefused mid new numbers fault → FreeRefused old new first len fault
@@ -184,22 +266,26 @@ free-refused old mid new first len numbers (Bad page kept found) steady stays ha
     inr (record {
       met = stops.met;
       number = stops.number;
-      gives = gives-at old mid first len numbers (λ met number. ((page ≡ 1) ⊎ ((page ≡ first_trunk met) ⊎ (page ≡ number))) × (met.bad page ≡ Some (kept, found))) steady stays t (has t) stops;
+      gives = gives-at old mid first len numbers
+          (λ met number. ((page ≡ 1) ⊎ ((page ≡ first_trunk met) ⊎ (page ≡ number))) × (met.bad page ≡ Some (kept, found)) × PagesStay met new.pages)
+          steady stays t (has t) stops;
       which = stops.why.0;
       fails = stops.why.1;
+      still = stops.why.2;
     })
 free-refused old mid new first len numbers (Corrupt page) steady stays has cause = λ t.
     let stops = cause (tells-on old mid steady t) in
-    let gives = gives-at old mid first len numbers (λ met number. NoTrunk met page ⊎ BadTrunk met page) steady stays t (has t) stops in
+    let gives = gives-at old mid first len numbers (λ met number. (NoTrunk met page ⊎ BadTrunk met page) × PagesStay met new.pages) steady stays t (has t) stops in
     inr (record {
       met = stops.met;
       number = stops.number;
       gives = gives;
-      why = stops.why;
+      why = stops.why.0;
+      still = stops.why.1;
       damaged = λ trunks free apart.
           let grown = no_give old.pages stops.met first len stops.number trunks gives free apart in
           let after : List Trunk = give_each old.pages.usable gives.given trunks in
-          elim stops.why [
+          elim stops.why.0 [
             | inl none ↦ no_trunk stops.met after page grown none
             | inr bad ↦ bad_trunk stops.met after page grown bad
           ];
@@ -213,3 +299,15 @@ walk-free old new first len Memory stays cause = tt
 walk-free old new first len (Bad page kept found) stays cause = λ t. inl (cause t, stays)
 walk-free old new first len (Corrupt page) stays cause = λ t. inl (cause t, stays)
 walk-free old new first len (Large pages) stays cause = absurd cause
+
+-- a chain of some bytes has a page
+pub some-pages : (usable len count : ℕ) → 5 ≤ usable → count ≡ pages_needed usable len → 1 ≤ len → 1 ≤ count
+some-pages usable len count least is some =
+    let enough = needed_enough len (usable - 4) (omega arith) in
+    let none : count ≡ 0 → ⊥ = λ e.
+    let product : (usable - 4) * div_ceil len (usable - 4) ≡ 0 = ap (λ n. (usable - 4) * n) (needed_is len usable least ∙ sym is ∙ e) ∙ mul-zero (usable - 4) in
+    omega arith in
+    elim (cases_lt 0 count) as (λ _. 1 ≤ count) [
+      | inl more ↦ omega arith
+      | inr less ↦ absurd (none (omega arith))
+    ]

@@ -11,8 +11,9 @@ use Rattle.byteorder.specs.Numbers.{big_number-reads_back, length-bytes_high_fir
 use Rattle.page_list.specs.Pages.{Pages, IsGood, SamePage, times, Among, AllDifferent, number_in}
 use Rattle.page_list.specs.Chain.{AreLinked, IsChain, next_page, piece, pages_needed}
 use Rattle.page_list.proofs.ChainLemmas.{times-append, times-same, among-here, among-cons, among-back, same_or_other}
-use Rattle.page_pool.specs.Space.{SpaceState, HasSizes, Steady, Holds, Put, PageCause, IsZeroFrom}
-use Rattle.page_pool.specs.Pool.{StaysChanged}
+use Rattle.page_pool.specs.Space.{SpaceState, HasSizes, Steady, Stays, Holds, Put, PageCause, IsZeroFrom}
+use Rattle.page_pool.specs.Pool.{NotesChange}
+use Rattle.payload_chain.specs.Chains.{OnlyThese}
 use Rattle.payload_chain.specs.Steps.{HasEach, HasPut, PutRefused}
 use Rattle.payload_chain.proofs.WalkLemmas.{take-join, needed_is, needed_enough, steady-on, tells-on, rose-on}
 use Rattle.db_format.specs.declared.fault.SpaceFault.{SpaceFault}
@@ -166,7 +167,7 @@ written-chain pages first numbers rest written there different enough = record {
 pub record PutsAlong (old now : SpaceState) (all left : List ℕ) (next end : ℕ) (rest page : List ℕ) : Type 0 where
   pub steady : Steady old now
   pub size : now.pages.size ≡ old.pages.size
-  pub stays_changed : StaysChanged old now
+  pub noted : NotesChange old now
   pub one_page : length page ≡ old.page_size
   pub front : left ≡ take (length left) all
   pub fewer : length left ≤ length all
@@ -277,7 +278,7 @@ puts-on old now new all left left' rest page content chunk x next end start size
     record {
       steady = steady-on old now new along.steady steps;
       size = put.size ∙ along.size;
-      stays_changed = λ was. put.change;
+      noted = inl put.change;
       one_page = long;
       front = pop.front;
       fewer = omega arith;
@@ -338,19 +339,28 @@ put-refused old now new all left left' rest page x next end (Bad number kept fou
 put-refused old now new all left left' rest page x next end (Corrupt number) along pop cause = absurd cause
 put-refused old now new all left left' rest page x next end (Large pages) along pop cause = absurd cause
 
+-- nor does the one that is refused
+pub put-others : (old now new : SpaceState) (all left rest page : List ℕ) (next end : ℕ) → PutsAlong old now all left next end rest page → Stays now new
+    → IsTrue old.tells → OnlyThese old.pages new.pages all
+put-others old now new all left rest page next end along still t n out =
+    let was = along.others t n out in
+    let here = (still.pages_stay (tells-on old now along.steady t)).each n in
+    record { bytes_stay = here.bytes_stay ∙ was.bytes_stay; mark_stays = here.mark_stays ∙ was.mark_stays }
+
 -- all pages are put
 pub puts-done : (old now : SpaceState) (all left rest page : List ℕ) (first end : ℕ) → PutsAlong old now all left first end rest page → length left ≡ 0
-    → HasEach old.pages all → length all ≡ pages_needed old.pages.usable (length rest) → IsTrue old.tells → HasPut old.pages now.pages first all rest
-puts-done old now all left rest page first end along none there enough t =
+    → HasEach old.pages all → length all ≡ pages_needed old.pages.usable (length rest) → IsTrue old.tells → AllDifferent all → HasPut now.pages first all rest
+puts-done old now all left rest page first end along none there enough t different =
     let ends = along.ends in
     let product : (old.pages.usable - 4) * length left ≡ 0 = ap (λ n. (old.pages.usable - 4) * n) none ∙ mul-zero (old.pages.usable - 4) in
     let end_is : end ≡ 0 = omega arith in
     let P : ℕ → Type 0 = λ n. HasWritten now.pages first (drop n all) (drop end rest) in
     let Q : ℕ → Type 0 = λ n. HasWritten now.pages first all (drop n rest) in
+    let written = subst Q end_is (subst P none (along.written t different)) in
     record {
-      others = along.others t;
-      chain = λ different.
-          written-chain now.pages first all rest (subst Q end_is (subst P none (along.written t different)))
+      chain = written-chain now.pages first all rest written
           (record { each = λ n among. let was = there.each n among in record { least = was.least; most = omega (arith, was.most, along.size) } })
           different (enough ∙ ap (λ u. pages_needed u (length rest)) (sym along.steady.used));
+      behind = written.tail;
+      zeros = written.holds;
     }

@@ -1,14 +1,14 @@
 -- Lemmas for pages that are taken, one after the other.
-use Rattle.std.proofs.Common.{◌≡◌, ◌≢◌, inl, inr, ℕ, ◌+◌, ◌≤◌, ◌<◌, List, [], ◌∷◌, ◌++◌, length, refl, sym, ap, ◌∙◌, subst, arith, IsTrue, Err, ◌*◌, nat_lt, true, false, if◌then◌else◌}
+use Rattle.std.proofs.Common.{◌≡◌, ◌≢◌, ◌⊎◌, inl, inr, ℕ, zero, suc, ◌+◌, ◌≤◌, ◌<◌, List, [], ◌∷◌, ◌++◌, length, refl, sym, ap, ◌∙◌, subst, arith, IsTrue, Err, ◌*◌, nat_lt, true, false, if◌then◌else◌}
 use Rattle.std.proofs.lemmas.Bool.{cases_lt}
-use Rattle.page_list.specs.Pages.{Pages, HasPage, SamePage, times, Among}
+use Rattle.page_list.specs.Pages.{Pages, HasPage, SamePage, times, Among, AllDifferent}
 use Rattle.page_list.specs.Freelist.{Trunk, IsFreelist, first_trunk, free_pages}
 use Rattle.page_list.specs.Chain.{pages_needed}
 use Rattle.page_list.proofs.ChainLemmas.{among-more, times-same, times-other, same_or_other, among-here, among-cons}
-use Rattle.page_pool.specs.Space.{SpaceState, Steady, Grew}
-use Rattle.page_pool.specs.Pool.{Took, TakesFrom, TakeCause, Untouched, take_from, taken_page, without_last}
-use Rattle.payload_chain.specs.Chains.{TookOne, AfterTakes, Wrote, WriteRefused, take_each, size_after, taken_pages, trunk_numbers}
-use Rattle.payload_chain.specs.Steps.{HasEach, HasPut, PutRefused, TakeRefused}
+use Rattle.page_pool.specs.Space.{SpaceState, Steady, Stays, Grew}
+use Rattle.page_pool.specs.Pool.{Took, TakesFrom, TakeCause, OnlyTwo, Untouched, take_from, taken_page, without_last}
+use Rattle.payload_chain.specs.Chains.{TookOne, AfterTakes, Wrote, WriteRefused, WriteLeaves, OnlyThese, LeftOf, take_each, size_after, taken_pages, trunk_numbers}
+use Rattle.payload_chain.specs.Steps.{HasEach, HasPut, PutRefused, TakeRefused, TakeLeaves}
 use Rattle.payload_chain.proofs.FreelistLemmas.{freelist-same, no_trunk, bad_trunk, no_leaf, take_from-times}
 use Rattle.payload_chain.proofs.WalkLemmas.{rose-on, tells-on}
 use Rattle.db_format.specs.Header.{greatest_length}
@@ -49,15 +49,30 @@ take-refused old now new numbers count Failed fewer size steady steps after caus
 take-refused old now new numbers count Memory fewer size steady steps after cause still = tt
 take-refused old now new numbers count (Bad page kept found) fewer size steady steps after cause still = λ t.
     let told = tells-on old now steady t in
-    record { taken = numbers; met = now; took = after t; fewer = fewer; why = ((cause told).1, (cause told).0 told) }
+    record { taken = numbers; met = now; took = after t; fewer = fewer; still = still told; why = ((cause told).1, (cause told).0 told) }
 take-refused old now new numbers count (Corrupt page) fewer size steady steps after cause still = λ t.
-    record { taken = numbers; met = now; took = after t; fewer = fewer; why = cause (tells-on old now steady t) }
+    record { taken = numbers; met = now; took = after t; fewer = fewer; still = still; why = cause (tells-on old now steady t) }
 take-refused old now new numbers count (Large pages) fewer size steady steps after cause still = (
   omega (arith, cause.1),
   large-same (now.pages.size + 1) pages now.page_size old.page_size (sym cause.1) steady.sized cause.0,
   cause.1 ∙ ap (λ n. n + 1) (sym still.number),
-  λ t. record { taken = numbers; met = now; took = after t; fewer = fewer; why = cause.2 (tells-on old now steady t) },
+  λ t. record { taken = numbers; met = now; took = after t; fewer = fewer; still = still; why = cause.2 (tells-on old now steady t) },
 )
+
+-- and what it leaves: where taking is refused, and where the page that was taken could not be noted down
+pub take-leaves : (old now new : SpaceState) (numbers : List ℕ) (count : ℕ) → length numbers < count → Steady old now → (IsTrue old.tells → AfterTakes old numbers now)
+    → (IsTrue now.tells → OnlyTwo now.pages new.pages 1 (first_trunk now.pages)) → IsTrue old.tells → TakeLeaves old new count
+take-leaves old now new numbers count fewer steady after only t =
+    record { taken = numbers; met = now; took = after t; no_more = omega arith; only = only (tells-on old now steady t) }
+
+pub taken-leaves : (old new : SpaceState) (numbers : List ℕ) (count : ℕ) → length numbers ≤ count → AfterTakes old numbers new → TakeLeaves old new count
+taken-leaves old new numbers count no_more after = record {
+  taken = numbers;
+  met = new;
+  took = after;
+  no_more = no_more;
+  only = record { size = refl; each = λ n n1 n2. record { bytes_stay = refl; mark_stays = refl } };
+}
 
 fresh-page : (old next : SpaceState) (n m : ℕ) → Grew old next n → IsTrue old.tells → m ≢ n → SamePage old.pages next.pages m
 fresh-page old next n m grew t other = (grew.holds t).others m other
@@ -143,6 +158,12 @@ fresh-none size next m (trunk ∷ more) over under is = absurd (omega arith)
 first-free : (pages : Pages) (trunks : List Trunk) → IsFreelist pages trunks → ¬ (Among (free_pages trunks) 1)
 first-free pages trunks free among = let two = (free.within 1 among).1 in omega arith
 
+same-on : (a b c : Pages) (n : ℕ) → SamePage a b n → SamePage b c n → SamePage a c n
+same-on a b c n here later = record { bytes_stay = later.bytes_stay ∙ here.bytes_stay; mark_stays = later.mark_stays ∙ here.mark_stays }
+
+behind_first : (n : ℕ) → 2 ≤ n → n ≢ 1
+behind_first n behind is = omega arith
+
 -- what takes leave, one after the other
 pub record TookFrom (old new : SpaceState) (trunks : List Trunk) (numbers : List ℕ) : Type 0 where
   pub taken : numbers ≡ taken_pages old.pages.size (length numbers) trunks
@@ -183,20 +204,21 @@ takes-freelist old new (n ∷ more) trunks after free =
       others = λ m not_1 out other.
           let here = facts.others m not_1 out (λ e. other (let P : ℕ → Type 0 = λ k. Among (k ∷ more) m in subst P e (among-here m more))) in
           let later = rest.others m not_1 (λ among. out (trunks-fewer m trunks among)) (λ among. other (among-cons m n more among)) in
-          record { bytes_stay = later.bytes_stay ∙ here.bytes_stay; mark_stays = later.mark_stays ∙ here.mark_stays };
+          same-on old.pages next.pages new.pages m here later;
     }
 
 -- what a chain that was written leaves
 pub wrote : (old mid new : SpaceState) (first : ℕ) (numbers rest : List ℕ) → 1 ≤ old.pages.size → AfterTakes old numbers mid
-    → length numbers ≡ pages_needed old.pages.usable (length rest) → HasPut mid.pages new.pages first numbers rest → new.pages.size ≡ mid.pages.size
+    → length numbers ≡ pages_needed old.pages.usable (length rest) → OnlyThese mid.pages new.pages numbers
+    → (AllDifferent numbers → HasPut new.pages first numbers rest) → new.pages.size ≡ mid.pages.size
     → new.pages.usable ≡ mid.pages.usable → Wrote old new first rest
-wrote old mid new first numbers rest some after enough put size used = record {
+wrote old mid new first numbers rest some after enough others put size used = record {
   numbers = numbers;
   met = mid;
   took = after;
   enough = enough;
   size = size;
-  others = put.others;
+  others = others;
   freelist = λ trunks free.
       let took = takes-freelist old mid numbers trunks after free in
       let left : List Trunk = take_each (length numbers) trunks in
@@ -205,16 +227,63 @@ wrote old mid new first numbers rest some after enough put size used = record {
         | inr below ↦ omega (arith, took.kept m below, free.different.once m)
       ] in
       let not_1 : ¬ (Among numbers 1) = λ among. first-free old.pages trunks free (omega (arith, took.kept 1 some)) in
+      let holds = put (record { once = λ m. omega (arith, apart m) }) in
       record {
         taken = took.taken;
-        left = freelist-same mid.pages new.pages left used (omega arith) (put.others 1 not_1).bytes_stay
-            (λ m among. (put.others m (λ again. absurd (omega (arith, apart m)))).bytes_stay) took.left;
-        chain = put.chain (record { once = λ m. omega (arith, apart m) });
-        others = λ m n1 n2 n3.
-            let here = took.others m n1 n2 n3 in
-            let later = put.others m n3 in
-            record { bytes_stay = later.bytes_stay ∙ here.bytes_stay; mark_stays = later.mark_stays ∙ here.mark_stays };
+        left = freelist-same mid.pages new.pages left used (omega arith) (others 1 not_1).bytes_stay
+            (λ m among. (others m (λ again. absurd (omega (arith, apart m)))).bytes_stay) took.left;
+        chain = holds.chain;
+        behind = holds.behind;
+        zeros = holds.zeros;
+        others = λ m n1 n2 n3. same-on old.pages mid.pages new.pages m (took.others m (behind_first m n1) n2 n3) (others m n3);
       };
+}
+
+-- the first trunk of a freelist, and the trunks after some pages are taken, are among its trunks
+first-among : (pages : Pages) (trunks : List Trunk) (n : ℕ) → IsFreelist pages trunks → 1 ≤ n → n ≡ first_trunk pages → Among (trunk_numbers trunks) n
+first-among pages [] n free some is = let none = free.linked in absurd (omega arith)
+first-among pages (trunk ∷ more) n free some is = among-trunk n trunk (trunk_numbers more) (free.linked.0 ∙ sym is)
+
+trunks-among : (count m : ℕ) (trunks : List Trunk) → Among (trunk_numbers (take_each count trunks)) m → Among (trunk_numbers trunks) m
+trunks-among zero m trunks among = among
+trunks-among (suc count) m trunks among = trunks-fewer m trunks (trunks-among count m (take_from trunks) among)
+
+-- what a chain that could not be written leaves
+left-of : (old met new : SpaceState) (taken : List ℕ) → AfterTakes old taken met
+    → OnlyTwo met.pages new.pages 1 (first_trunk met.pages) ⊎ OnlyThese met.pages new.pages taken
+    → (trunks : List Trunk) → IsFreelist old.pages trunks → LeftOf old.pages new.pages trunks taken
+left-of old met new taken after only trunks free =
+    let took = takes-freelist old met taken trunks after free in
+    record {
+      are = took.taken;
+      others = λ m n1 n2 n3. same-on old.pages met.pages new.pages m (took.others m (behind_first m n1) n2 n3) (elim only as (λ _. SamePage met.pages new.pages m) [
+        | inl two ↦ two.each m (behind_first m n1)
+            (λ is. n2 (trunks-among (length taken) m trunks (first-among met.pages (take_each (length taken) trunks) m took.left (omega arith) is)))
+        | inr these ↦ these m n3
+      ]);
+    }
+
+pub write-leaves : (old new : SpaceState) (count len : ℕ) → count ≡ pages_needed old.pages.usable len → TakeLeaves old new count → WriteLeaves old new len
+write-leaves old new count len is stops = record {
+  taken = stops.taken;
+  met = stops.met;
+  took = stops.took;
+  no_more = omega (arith, stops.no_more);
+  size = stops.only.size;
+  only = inl stops.only;
+  freelist = left-of old stops.met new stops.taken stops.took (inl stops.only);
+}
+
+pub put-leaves : (old mid new : SpaceState) (numbers : List ℕ) (len : ℕ) → AfterTakes old numbers mid → length numbers ≡ pages_needed old.pages.usable len
+    → new.pages.size ≡ mid.pages.size → OnlyThese mid.pages new.pages numbers → WriteLeaves old new len
+put-leaves old mid new numbers len after enough size others = record {
+  taken = numbers;
+  met = mid;
+  took = after;
+  no_more = omega arith;
+  size = size;
+  only = inr (enough, others);
+  freelist = left-of old mid new numbers after (inr others);
 }
 
 -- why a chain could not be written
@@ -225,7 +294,7 @@ write-refused old new count len (Bad page kept found) is cause = λ t.
     let stops = cause t in
     inl (record {
       met = stops.met;
-      takes = record { taken = stops.taken; took = stops.took; fewer = omega (arith, stops.fewer) };
+      takes = record { taken = stops.taken; took = stops.took; fewer = omega (arith, stops.fewer); still = stops.still };
       which = stops.why.0;
       fails = stops.why.1;
     })
@@ -233,7 +302,7 @@ write-refused old new count len (Corrupt page) is cause = λ t.
     let stops = cause t in
     record {
       met = stops.met;
-      takes = record { taken = stops.taken; took = stops.took; fewer = omega (arith, stops.fewer) };
+      takes = record { taken = stops.taken; took = stops.took; fewer = omega (arith, stops.fewer); still = stops.still };
       why = stops.why;
       damaged = λ trunks free.
           let left = (takes-freelist old stops.met stops.taken trunks stops.took free).left in
@@ -251,14 +320,15 @@ write-refused old new count len (Large pages) is cause = record {
   large = cause.1;
   one_more = cause.2;
   empty = λ t. let stops = cause.3 t in
-      record { met = stops.met; takes = record { taken = stops.taken; took = stops.took; fewer = omega (arith, stops.fewer) }; empty = stops.why };
+      record { met = stops.met; takes = record { taken = stops.taken; took = stops.took; fewer = omega (arith, stops.fewer); still = stops.still }; empty = stops.why };
 }
 
 pub put-chain-refused : (old mid new : SpaceState) (numbers : List ℕ) (len : ℕ) (fault : SpaceFault) → Steady old mid → (IsTrue old.tells → AfterTakes old numbers mid)
-    → length numbers ≡ pages_needed old.pages.usable len → PutRefused mid new numbers fault → WriteRefused old new len fault
-put-chain-refused old mid new numbers len Failed steady after enough cause = rose-on old mid new steady cause
-put-chain-refused old mid new numbers len Memory steady after enough cause = tt
-put-chain-refused old mid new numbers len (Bad page kept found) steady after enough cause = λ t.
-    inr (record { numbers = numbers; met = mid; took = after t; enough = enough; one = cause.0; fails = cause.1 (tells-on old mid steady t) })
-put-chain-refused old mid new numbers len (Corrupt page) steady after enough cause = absurd cause
-put-chain-refused old mid new numbers len (Large pages) steady after enough cause = absurd cause
+    → length numbers ≡ pages_needed old.pages.usable len → (IsTrue mid.tells → OnlyThese mid.pages new.pages numbers) → PutRefused mid new numbers fault → WriteRefused old new len fault
+put-chain-refused old mid new numbers len Failed steady after enough others cause = rose-on old mid new steady cause
+put-chain-refused old mid new numbers len Memory steady after enough others cause = tt
+put-chain-refused old mid new numbers len (Bad page kept found) steady after enough others cause = λ t.
+    let told = tells-on old mid steady t in
+    inr (record { numbers = numbers; met = mid; took = after t; enough = enough; one = cause.0; fails = cause.1 told; others = others told })
+put-chain-refused old mid new numbers len (Corrupt page) steady after enough others cause = absurd cause
+put-chain-refused old mid new numbers len (Large pages) steady after enough others cause = absurd cause

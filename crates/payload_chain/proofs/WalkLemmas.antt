@@ -2,7 +2,7 @@
 use Rattle.std.proofs.Common.{◌≡◌, ◌≢◌, inl, inr, ℕ, zero, suc, ◌+◌, ◌-◌, ◌*◌, ◌/◌, ◌%◌, ◌≤◌, ◌<◌, min, nat_lt, true, false, cond, List, [], ◌∷◌, ◌++◌, length, take, drop, refl, sym, ap, ◌∙◌, subst, arith, append_assoc, length-append, length-take, length-drop, append-nil, add-mul, mul-add, mul-one, mul-zero, mul_comm, mod-lt, IsTrue, Result, Ok, Err}
 use Rattle.std.proofs.Math.Seq.{take-append_seam}
 use Rattle.std.proofs.Math.Path.{fun_ext}
-use Rattle.std.specs.Result.{IfOk, IfErr, IsErrAnd}
+use Rattle.std.specs.Result.{IfOk, IfErr, OnErr, IsErrAnd}
 use Rattle.std.proofs.lemmas.Bool.{cases_lt}
 use Rattle.std.proofs.lemmas.Bool.Decides.{nat_tests}
 use Rattle.std.proofs.lemmas.Grind.{flat_map-append}
@@ -18,6 +18,7 @@ use Rattle.page_list.specs.Pages.{Pages, HasPage, IsGood, times, Among, number_i
 use Rattle.page_list.specs.Chain.{IsChain, HasWalked, pages_needed, piece, next_page}
 use Rattle.page_list.proofs.ChainLemmas.{times-append, same_or_other, walked-none, walked-more, holder-more, among-more}
 use Rattle.page_pool.specs.Space.{SpaceState, IsReady, IsWritable, HasSizes, Steady, Stays, PagesStay, Rose}
+use Rattle.page_pool.specs.Pool.{NotesChange}
 use Rattle.payload_chain.specs.Chains.{Found, ReadRefused}
 use Rattle.payload_chain.specs.Steps.{HasMet, HasCome, HasRead, HasPages, HasEach, Begins, StepsOn, StepRefused}
 use Rattle.payload_chain.specs.declared.walk.Walk.{Walk}
@@ -105,6 +106,12 @@ stays-on a b c s p q = record {
 
 pub rose-on : (a b c : SpaceState) → Steady a b → Rose b c → Rose a c
 rose-on a b c s r = omega arith
+
+-- what was said of the change of a space is said later
+pub noted-on : (a b c : SpaceState) → Steady a b → NotesChange a b → NotesChange b c → NotesChange a c
+noted-on a b c steady was (inl changed) = inl changed
+noted-on a b c steady (inl changed) (inr still) = inl (still.change ∙ changed)
+noted-on a b c steady (inr stays) (inr still) = inr (stays-on a b c steady stays still)
 
 -- lists
 pub take-join : (n : ℕ) (a b : List ℕ) → take n (a ++ b) ≡ take n a ++ take (n - length a) b
@@ -373,6 +380,14 @@ buffer-after n page page' long same =
 pub if_err : {T E : Type 0} (r : Result T E) (e : E) (P : E → Type 0) → IsErrAnd r (λ x. x ≡ e) → P e → IfErr r P
 if_err (Ok x) e P is p = tt
 if_err (Err y) e P is p = subst P (sym is) p
+
+pub on_err : {T E : Type 0} (r : Result T E) (P : Type 0) → P → OnErr r P
+on_err (Ok x) P p = tt
+on_err (Err y) P p = p
+
+pub all_ok : {T E : Type 0} (r : Result T E) (A : Type 0) (P Q : T → Type 0) → (A → IfOk r P) → ((x : T) → (A → P x) → Q x) → IfOk r Q
+all_ok (Ok x) A P Q p f = f x p
+all_ok (Err y) A P Q p f = tt
 
 pub if_err-map : {T E : Type 0} (r : Result T E) (P Q : E → Type 0) → IfErr r P → ((e : E) → P e → Q e) → IfErr r Q
 if_err-map (Ok x) P Q p f = tt

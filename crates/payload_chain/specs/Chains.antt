@@ -1,11 +1,12 @@
 -- What reading, freeing and writing an overflow chain answer and leave.
 -- After sqlite.org, "Database File Format", section 1.6, "Cell Payload Overflow Pages", and 1.5, "The Freelist".
-use Rattle.std.specs.Prelude.{◌≡◌, ◌≢◌, ◌⊎◌, ℕ, zero, suc, ◌+◌, ◌*◌, ◌≤◌, ◌<◌, List, [], ◌∷◌, ◌++◌, length, map, Some, IsTrue}
+use Rattle.std.specs.Prelude.{◌≡◌, ◌≢◌, ◌⊎◌, ℕ, zero, suc, ◌+◌, ◌*◌, ◌≤◌, ◌<◌, List, [], ◌∷◌, ◌++◌, length, map, replicate, Some, IsTrue}
+use Rattle.std.specs.List.{flat_map}
 use Rattle.page_list.specs.Pages.{Pages, SamePage, Among}
 use Rattle.page_list.specs.Freelist.{Trunk, IsFreelist, first_trunk, free_pages}
-use Rattle.page_list.specs.Chain.{IsChain, BreaksAt, FailsAt, pages_needed}
-use Rattle.page_pool.specs.Space.{SpaceState, Stays, Rose}
-use Rattle.page_pool.specs.Pool.{Gave, GivesTo, Took, TakesFrom, NoTrunk, BadTrunk, NoLeaf, give_to, take_from, taken_page}
+use Rattle.page_list.specs.Chain.{IsChain, BreaksAt, FailsAt, pages_needed, piece}
+use Rattle.page_pool.specs.Space.{SpaceState, PagesStay, Stays, Rose}
+use Rattle.page_pool.specs.Pool.{Gave, GivesTo, Took, TakesFrom, NoTrunk, BadTrunk, NoLeaf, OnlyTwo, OnlyThree, give_to, take_from, taken_page}
 use Rattle.db_format.specs.Header.{greatest_length}
 use Rattle.db_format.specs.declared.fault.SpaceFault.{SpaceFault}
 use Rattle.db_format.specs.declared.fault.SpaceFault.TheVariants.{Failed, Memory, Bad, Corrupt, Large}
@@ -52,6 +53,10 @@ pub record SparesFirst (pages : Pages) (numbers : List ℕ) : Type 0 where
   pub trunk : first_trunk pages ≢ 1
   pub page : ¬ (Among numbers 1)
 
+-- no page but page 1, the first trunk of before and these pages has changed
+abbrev pub OnlyGiven : Pages → Pages → List ℕ → Type 0
+OnlyGiven old new numbers = (number : ℕ) → number ≢ 1 → number ≢ first_trunk old → ¬ (Among numbers number) → SamePage old new number
+
 -- the chain of so many bytes was there, and each page of it was given, in order. No page but page 1, the first
 -- trunk and those of the chain has changed, and where the pages had a freelist apart from the chain, it now has them
 pub record Freed (old new : Pages) (first len : ℕ) : Type 0 where
@@ -60,44 +65,61 @@ pub record Freed (old new : Pages) (first len : ℕ) : Type 0 where
   pub chain : IsChain old first numbers payload
   pub long : length payload ≡ len
   pub gave : AfterGives old numbers new
-  pub others : SparesFirst old numbers → (number : ℕ) → number ≢ 1 → number ≢ first_trunk old → ¬ (Among numbers number) → SamePage old new number
+  pub others : SparesFirst old numbers → OnlyGiven old new numbers
   pub freelist : (trunks : List Trunk) → IsFreelist old trunks → AreApart numbers trunks → IsFreelist new (give_each old.usable numbers trunks)
 
 -- the chain of so many bytes was there, some of its pages were given, and the next, this one, over these pages
 pub record Gives (old : Pages) (first len : ℕ) (met : Pages) (number : ℕ) : Type 0 where
+  pub numbers : List ℕ
+  pub payload : List ℕ
+  pub chain : IsChain old first numbers payload
+  pub long : length payload ≡ len
   pub given : List ℕ
   pub more : List ℕ
-  pub payload : List ℕ
-  pub chain : IsChain old first (given ++ number ∷ more) payload
-  pub long : length payload ≡ len
+  pub are : numbers ≡ given ++ number ∷ more
   pub gave : AfterGives old given met
 
--- giving one of them met a first trunk that is out of range or malformed: never where the pages had a freelist apart
--- from the chain
-pub record GiveBreaks (old : Pages) (first len page : ℕ) : Type 0 where
+-- giving one of them met a first trunk that is out of range or malformed, and changed nothing: never where the pages
+-- had a freelist apart from the chain
+pub record GiveBreaks (old new : Pages) (first len page : ℕ) : Type 0 where
   pub met : Pages
   pub number : ℕ
   pub gives : Gives old first len met number
   pub why : NoTrunk met page ⊎ BadTrunk met page
-  pub damaged : (trunks : List Trunk) → IsFreelist old trunks → ¬ (AreApart (gives.given ++ number ∷ gives.more) trunks)
+  pub still : PagesStay met new
+  pub damaged : (trunks : List Trunk) → IsFreelist old trunks → ¬ (AreApart gives.numbers trunks)
 
--- giving one of them met a page that fails its checksum: page 1, the first trunk, or the page itself
-pub record GiveFails (old : Pages) (first len page : ℕ) (sums : ℕ × ℕ) : Type 0 where
+-- giving one of them met a page that fails its checksum, and changed nothing: page 1, the first trunk, or the page itself
+pub record GiveFails (old new : Pages) (first len page : ℕ) (sums : ℕ × ℕ) : Type 0 where
   pub met : Pages
   pub number : ℕ
   pub gives : Gives old first len met number
   pub which : (page ≡ 1) ⊎ ((page ≡ first_trunk met) ⊎ (page ≡ number))
   pub fails : met.bad page ≡ Some sums
+  pub still : PagesStay met new
 
 -- why a chain could not be freed: as for reading, and then nothing has changed; or a page of it could not be given
 abbrev pub FreeRefused : SpaceState → SpaceState → ℕ → ℕ → SpaceFault → Type 0
 FreeRefused old new first len Failed = Rose old new
 FreeRefused old new first len Memory = Unit {0}
 FreeRefused old new first len (Bad page kept found) =
-    IsTrue old.tells → (FailsAt old.pages first len page (kept, found) × Stays old new) ⊎ GiveFails old.pages first len page (kept, found)
+    IsTrue old.tells → (FailsAt old.pages first len page (kept, found) × Stays old new) ⊎ GiveFails old.pages new.pages first len page (kept, found)
 FreeRefused old new first len (Corrupt page) =
-    IsTrue old.tells → (BreaksAt old.pages first len page × Stays old new) ⊎ GiveBreaks old.pages first len page
+    IsTrue old.tells → (BreaksAt old.pages first len page × Stays old new) ⊎ GiveBreaks old.pages new.pages first len page
 FreeRefused old new first len (Large pages) = ⊥
+
+-- some pages of the chain of so many bytes are given, and of giving the next no page but page 1, the first trunk and
+-- the page itself has changed. So none but page 1, the first trunk of before and those of the chain has
+pub record GaveSome (old new : Pages) (first len : ℕ) : Type 0 where
+  pub met : Pages
+  pub number : ℕ
+  pub gives : Gives old first len met number
+  pub only : OnlyThree met new 1 (first_trunk met) number
+  pub others : SparesFirst old gives.numbers → OnlyGiven old new gives.numbers
+
+-- what a chain that could not be freed leaves
+abbrev pub FreeLeaves : Pages → Pages → ℕ → ℕ → Type 0
+FreeLeaves old new first len = PagesStay old new ⊎ GaveSome old new first len
 
 -- a page was taken, from a space that tells what it holds
 pub record TookOne (old new : SpaceState) (number : ℕ) : Type 0 where
@@ -129,13 +151,23 @@ taken_pages size (suc count) trunks = taken_page size trunks ∷ taken_pages (si
 abbrev pub trunk_numbers : List Trunk → List ℕ
 trunk_numbers trunks = map (λ trunk. trunk.number) trunks
 
+-- no page but page 1, the trunks and these pages has changed
+abbrev pub OnlyTaken : Pages → Pages → List Trunk → List ℕ → Type 0
+OnlyTaken old new trunks numbers = (number : ℕ) → 2 ≤ number → ¬ (Among (trunk_numbers trunks) number) → ¬ (Among numbers number) → SamePage old new number
+
 -- the pages had this freelist: these are the pages that it gives, the rest of it is left, and the chain is in
--- them and holds these bytes. No page but page 1, the trunks and those of the chain has changed
+-- them and holds these bytes, and zeros behind them. No page but page 1, the trunks and those of the chain has changed
 pub record WroteInto (old new : Pages) (trunks : List Trunk) (first : ℕ) (numbers payload : List ℕ) : Type 0 where
   pub taken : numbers ≡ taken_pages old.size (length numbers) trunks
   pub left : IsFreelist new (take_each (length numbers) trunks)
   pub chain : IsChain new first numbers payload
-  pub others : (number : ℕ) → number ≢ 1 → ¬ (Among (trunk_numbers trunks) number) → ¬ (Among numbers number) → SamePage old new number
+  pub behind : ℕ
+  pub zeros : flat_map (piece new) numbers ≡ payload ++ replicate behind 0
+  pub others : OnlyTaken old new trunks numbers
+
+-- no page but these has changed
+abbrev pub OnlyThese : Pages → Pages → List ℕ → Type 0
+OnlyThese old new numbers = (number : ℕ) → ¬ (Among numbers number) → SamePage old new number
 
 -- as many pages as the bytes need were taken, and after that only they were changed; what they hold then is said
 -- where the pages had a freelist, since a damaged one may give a page twice
@@ -145,43 +177,45 @@ pub record Wrote (old new : SpaceState) (first : ℕ) (payload : List ℕ) : Typ
   pub took : AfterTakes old numbers met
   pub enough : length numbers ≡ pages_needed old.pages.usable (length payload)
   pub size : new.pages.size ≡ met.pages.size
-  pub others : (number : ℕ) → ¬ (Among numbers number) → SamePage met.pages new.pages number
+  pub others : OnlyThese met.pages new.pages numbers
   pub freelist : (trunks : List Trunk) → IsFreelist old.pages trunks → WroteInto old.pages new.pages trunks first numbers payload
 
--- fewer pages than the bytes need were taken, and the next take met these pages
-pub record Takes (old : SpaceState) (len : ℕ) (met : SpaceState) : Type 0 where
+-- fewer pages than the bytes need were taken, and the next take met these pages and changed nothing
+pub record Takes (old new : SpaceState) (len : ℕ) (met : SpaceState) : Type 0 where
   pub taken : List ℕ
   pub took : AfterTakes old taken met
   pub fewer : length taken < pages_needed old.pages.usable len
+  pub still : Stays met new
 
 -- a take met a first trunk that is out of range or malformed, or whose last leaf is out of range: never where the
 -- pages had a freelist
-pub record TakeBreaks (old : SpaceState) (len page : ℕ) : Type 0 where
+pub record TakeBreaks (old new : SpaceState) (len page : ℕ) : Type 0 where
   pub met : SpaceState
-  pub takes : Takes old len met
+  pub takes : Takes old new len met
   pub why : NoTrunk met.pages page ⊎ (BadTrunk met.pages page ⊎ NoLeaf met.pages page)
   pub damaged : (trunks : List Trunk) → ¬ (IsFreelist old.pages trunks)
 
 -- a take met a page that fails its checksum: page 1 or the first trunk
-pub record TakeFails (old : SpaceState) (len page : ℕ) (sums : ℕ × ℕ) : Type 0 where
+pub record TakeFails (old new : SpaceState) (len page : ℕ) (sums : ℕ × ℕ) : Type 0 where
   pub met : SpaceState
-  pub takes : Takes old len met
+  pub takes : Takes old new len met
   pub which : (page ≡ 1) ⊎ (page ≡ first_trunk met.pages)
   pub fails : met.pages.bad page ≡ Some sums
 
 -- one of the pages taken fails its checksum, and could not be put
-pub record PutFails (old : SpaceState) (len page : ℕ) (sums : ℕ × ℕ) : Type 0 where
+pub record PutFails (old new : SpaceState) (len page : ℕ) (sums : ℕ × ℕ) : Type 0 where
   pub numbers : List ℕ
   pub met : SpaceState
   pub took : AfterTakes old numbers met
   pub enough : length numbers ≡ pages_needed old.pages.usable len
   pub one : Among numbers page
   pub fails : met.pages.bad page ≡ Some sums
+  pub others : OnlyThese met.pages new.pages numbers
 
 -- a take met an empty freelist
-pub record TakeEmpty (old : SpaceState) (len : ℕ) : Type 0 where
+pub record TakeEmpty (old new : SpaceState) (len : ℕ) : Type 0 where
   pub met : SpaceState
-  pub takes : Takes old len met
+  pub takes : Takes old new len met
   pub empty : first_trunk met.pages ≡ 0
 
 -- so many pages, one more than there then are, pass the greatest database, and the freelist had no page
@@ -189,12 +223,29 @@ pub record TakeLarge (old new : SpaceState) (len pages : ℕ) : Type 0 where
   pub more : old.pages.size < pages
   pub large : greatest_length < pages * old.page_size
   pub one_more : pages ≡ new.pages.size + 1
-  pub empty : IsTrue old.tells → TakeEmpty old len
+  pub empty : IsTrue old.tells → TakeEmpty old new len
 
 -- why a chain could not be written
 abbrev pub WriteRefused : SpaceState → SpaceState → ℕ → SpaceFault → Type 0
 WriteRefused old new len Failed = Rose old new
 WriteRefused old new len Memory = Unit {0}
-WriteRefused old new len (Bad page kept found) = IsTrue old.tells → TakeFails old len page (kept, found) ⊎ PutFails old len page (kept, found)
-WriteRefused old new len (Corrupt page) = IsTrue old.tells → TakeBreaks old len page
+WriteRefused old new len (Bad page kept found) = IsTrue old.tells → TakeFails old new len page (kept, found) ⊎ PutFails old new len page (kept, found)
+WriteRefused old new len (Corrupt page) = IsTrue old.tells → TakeBreaks old new len page
 WriteRefused old new len (Large pages) = TakeLarge old new len pages
+
+-- the pages had this freelist: those taken are the first that it gives, and no page but page 1, the trunks and those
+-- taken has changed
+pub record LeftOf (old new : Pages) (trunks : List Trunk) (taken : List ℕ) : Type 0 where
+  pub are : taken ≡ taken_pages old.size (length taken) trunks
+  pub others : OnlyTaken old new trunks taken
+
+-- what a chain that could not be written leaves: no more pages than the bytes need are taken, and of taking the next
+-- no page but page 1 and the first trunk has changed, or, where all are taken, none but these
+pub record WriteLeaves (old new : SpaceState) (len : ℕ) : Type 0 where
+  pub taken : List ℕ
+  pub met : SpaceState
+  pub took : AfterTakes old taken met
+  pub no_more : length taken ≤ pages_needed old.pages.usable len
+  pub size : new.pages.size ≡ met.pages.size
+  pub only : OnlyTwo met.pages new.pages 1 (first_trunk met.pages) ⊎ ((length taken ≡ pages_needed old.pages.usable len) × OnlyThese met.pages new.pages taken)
+  pub freelist : (trunks : List Trunk) → IsFreelist old.pages trunks → LeftOf old.pages new.pages trunks taken

@@ -236,9 +236,12 @@ fn bad_pages_are_named(rt: HostRuntime) -> Result<(), Fail> {
 
 #[test]
 fn a_free_page_that_fails_is_not_written(rt: HostRuntime) -> Result<(), Fail> {
-    let mut space = database(&rt, rt.alloc(), 1)?;
+    let mut space = database(&rt, rt.alloc(), 5)?;
+    put_link(&rt, &mut space, 5, 0, b'x')?;
+    for (number, next) in [(2, 3), (3, 4), (4, 0)] {
+        put_link(&rt, &mut space, number, next, b'a')?;
+    }
     let payload = pattern(rt.alloc(), 1500)?;
-    write(&rt, rt.alloc(), &mut space, &payload)?;
     free_chain(rt.alloc(), &mut space, 2, 1500)?;
     let mut flawed = Flawed { space, bad: 4 };
     let expected = SpaceFault::Bad {
@@ -250,6 +253,50 @@ fn a_free_page_that_fails_is_not_written(rt: HostRuntime) -> Result<(), Fail> {
         write(&rt, rt.alloc(), &mut flawed, &payload),
         Err(expected)
     );
+    // the pages were taken in the order 4, 3, 2, and 4 would have been put last; no other page has changed
+    let left = [
+        (1, 32, 0),
+        (1, 36, 0),
+        (2, 0, 0),
+        (3, 0, 2),
+        (4, 0, 0),
+        (5, 4, 0x78787878),
+    ];
+    for (number, place, expected) in left {
+        assert_eq!(rt;
+            number_at(&rt, &mut flawed.space, number, place)?,
+            expected,
+            "{number}, {place}"
+        );
+    }
+    assert_eq!(rt; flawed.space.size(), 5);
+    Ok(())
+}
+
+#[test]
+fn a_trunk_that_fails_takes_no_page(rt: HostRuntime) -> Result<(), Fail> {
+    let mut space = database(&rt, rt.alloc(), 2)?;
+    free_chain(rt.alloc(), &mut space, 2, 1)?;
+    let payload = pattern(rt.alloc(), 600)?;
+    let mut flawed = Flawed { space, bad: 2 };
+    let expected = SpaceFault::Bad {
+        page: 2,
+        kept: 1,
+        found: 2,
+    };
+    assert_eq!(rt;
+        write(&rt, rt.alloc(), &mut flawed, &payload),
+        Err(expected)
+    );
+    let left = [(1, 32, 2), (1, 36, 1), (2, 0, 0), (2, 4, 0)];
+    for (number, place, expected) in left {
+        assert_eq!(rt;
+            number_at(&rt, &mut flawed.space, number, place)?,
+            expected,
+            "{number}, {place}"
+        );
+    }
+    assert_eq!(rt; flawed.space.size(), 2);
     Ok(())
 }
 

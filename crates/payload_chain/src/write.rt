@@ -2,12 +2,12 @@
 
 ghost use Rattle.std.specs.Prelude.{◌≡◌, ℕ, ◌+◌, ◌-◌, ◌*◌, ◌^◌, ◌≤◌, ◌<◌, ◌++◌, length, replicate, IsTrue, IfOk, IfErr, OnOk, OnErr};
 ghost use Rattle.byteorder.specs.Endian.{big_bytes};
-ghost use Rattle.page_list.specs.Pages.{HasPage, Among};
+ghost use Rattle.page_list.specs.Pages.{HasPage, Among, AllDifferent};
 ghost use Rattle.page_list.specs.Chain.{pages_needed};
 ghost use Rattle.page_pool.specs.Space.{IsReady, IsWritable, Steady, Stays};
-ghost use Rattle.page_pool.specs.Pool.{StaysChanged};
-ghost use Rattle.payload_chain.specs.Chains.{AfterTakes, Wrote, WriteRefused};
-ghost use Rattle.payload_chain.specs.Steps.{HasEach, TakeRefused, PutRefused, HasPut};
+ghost use Rattle.page_pool.specs.Pool.{NotesChange};
+ghost use Rattle.payload_chain.specs.Chains.{AfterTakes, Wrote, WriteRefused, WriteLeaves, OnlyThese};
+ghost use Rattle.payload_chain.specs.Steps.{HasEach, TakeRefused, TakeLeaves, PutRefused, HasPut};
 
 use crate::walk::{page_buffer, room};
 use byteorder::{BigEndian, ByteOrder};
@@ -17,7 +17,8 @@ use std::alloc::Global;
 /// Writes bytes to a chain of pages that are taken in its order, and answers the first of them. The rest of the
 /// last page is zeros.
 ///
-/// Refused as `take_page` and `put` are. After a refusal pages may have been taken and changed.
+/// Refused as `take_page` and `put` are. After a refusal some of the pages that the bytes need are taken, and no page
+/// but page 1, the trunks of the freelist and the pages taken has changed.
 pub fn write_chain<S: PageSpace>(
     alloc: Global,
     space: &mut S,
@@ -31,8 +32,9 @@ pub fn write_chain<S: PageSpace>(
     ensures cause { IfErr result (WriteRefused (S.state space.old) (S.state space.new) (length rest.now)) }
     ensures wrote { IsTrue (S.state space.old).tells → IfOk result (λ first. Wrote (S.state space.old) (S.state space.new) first rest.now) }
     ensures within { IfOk result (HasPage (S.state space.new).pages) }
+    ensures leaves { IsTrue (S.state space.old).tells → OnErr result (WriteLeaves (S.state space.old) (S.state space.new) (length rest.now)) }
     ensures changed { OnOk result (IsTrue (S.state space.new).changed) }
-    ensures stays_changed { StaysChanged (S.state space.old) (S.state space.new) }
+    ensures noted { NotesChange (S.state space.old) (S.state space.new) }
 {
     let needed = rest.len().div_ceil(room(space) as usize);
     let numbers = take_pages(alloc, space, needed)?;
@@ -53,7 +55,8 @@ fn take_pages<S: PageSpace>(
     ensures count { IfOk result (λ numbers. length numbers.items ≡ count) }
     ensures there { IfOk result (λ numbers. HasEach (S.state space.new).pages numbers.items) }
     ensures took { IsTrue (S.state space.old).tells → IfOk result (λ numbers. AfterTakes (S.state space.old) numbers.items (S.state space.new)) }
-    ensures stays_changed { StaysChanged (S.state space.old) (S.state space.new) }
+    ensures leaves { IsTrue (S.state space.old).tells → OnErr result (TakeLeaves (S.state space.old) (S.state space.new) count) }
+    ensures noted { NotesChange (S.state space.old) (S.state space.new) }
 {
     let mut numbers = Vec::new(alloc);
     for _ in 0..count {
@@ -80,10 +83,11 @@ fn put_pages<S: PageSpace>(
     ensures steady { Steady (S.state space.old) (S.state space.new) }
     ensures size { (S.state space.new).pages.size ≡ (S.state space.old).pages.size }
     ensures cause { IfErr result (PutRefused (S.state space.old) (S.state space.new) numbers.items) }
-    ensures put { IsTrue (S.state space.old).tells → IfOk result (λ first. HasPut (S.state space.old).pages (S.state space.new).pages first numbers.items rest.now) }
+    ensures others { IsTrue (S.state space.old).tells → OnlyThese (S.state space.old).pages (S.state space.new).pages numbers.items }
+    ensures put { IsTrue (S.state space.old).tells → AllDifferent numbers.items → IfOk result (λ first. HasPut (S.state space.new).pages first numbers.items rest.now) }
     ensures one { IfOk result (Among numbers.items) }
     ensures changed { OnOk result (IsTrue (S.state space.new).changed) }
-    ensures stays_changed { StaysChanged (S.state space.old) (S.state space.new) }
+    ensures noted { NotesChange (S.state space.old) (S.state space.new) }
 {
     let room = room(space) as usize;
     let mut page = page_buffer(alloc, space)?;

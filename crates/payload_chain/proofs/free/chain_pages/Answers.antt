@@ -1,4 +1,6 @@
-use Rattle.std.proofs.Common.{◌+◌, ◌∙◌, ℕ, List, length, refl, arith, sym, ap, subst, IsTrue}
+use Rattle.std.proofs.Common.{◌≡◌, ◌+◌, ◌∙◌, ℕ, List, length, refl, arith, sym, ap, subst, IsTrue}
+use Rattle.std.proofs.lemmas.Result.{IfOk-weaker}
+use Rattle.page_list.specs.Chain.{pages_needed}
 use Rattle.payload_chain.specs.Chains.{ReadRefused}
 use Rattle.payload_chain.specs.Steps.{HasPages}
 use Rattle.payload_chain.proofs.WalkLemmas.{WalksAlong, walks-on, walk-refused, late-refused, walk-pages, counted, counted_needed, buffer-after, if_err, if_err-map, if_ok-both}
@@ -34,6 +36,17 @@ returns-clause-cause g c =
     if_err-map c.finish.result _ (ReadRefused (state c.args.space.now) (state c.loop.space) c.args.first c.args.len) c.finish.ensures.cause
     (λ fault late. late-refused (state c.args.space.now) (state c.loop.space) c.args.first c.loop.counter c.args.len c.loop.walk c.loop.page.items fault
     c.loop.invariant (omega arith) late.0 late.1)
+
+pub returns-clause-enough : goal.returns-clause-enough
+returns-clause-enough g c =
+    let state = g.S.PageSpace.state in
+    let least = c.room.ensures.sizes.least in
+    let needed = counted_needed c.div_ceil-end.result c.args.len c.from-room.result c.room.result (state c.args.space.now).pages.usable
+    c.div_ceil-end.ensures c.from-room.ensures c.room.ensures.value (omega arith) in
+    let counted_up : c.loop.counter ≡ c.div_ceil-end.result = omega arith in
+    IfOk-weaker c.finish.result (λ numbers. numbers.items ≡ c.loop.walk.numbers.items)
+    (λ numbers. length numbers.items ≡ pages_needed (state c.args.space.now).pages.usable c.args.len)
+    (λ numbers same. ap (λ l. length l) same ∙ c.loop.invariant.as_many ∙ counted_up ∙ needed) c.finish.ensures.pages
 
 pub returns-clause-pages : goal.returns-clause-pages
 returns-clause-pages g c =

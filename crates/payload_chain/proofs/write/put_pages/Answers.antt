@@ -1,10 +1,10 @@
-use Rattle.std.proofs.Common.{◌≡◌, ◌+◌, ◌-◌, ◌*◌, ◌∙◌, ◌++◌, ℕ, List, length, take, drop, replicate, refl, arith, rules, ap, subst, length-take}
+use Rattle.std.proofs.Common.{◌≡◌, inr, ◌+◌, ◌-◌, ◌*◌, ◌∙◌, ◌++◌, ℕ, List, length, take, drop, replicate, refl, arith, rules, ap, subst, length-take}
 use Rattle.byteorder.specs.Endian.{big_bytes}
 use Rattle.page_pool.specs.Space.{Put}
 use Rattle.payload_chain.specs.Steps.{PutRefused}
-use Rattle.payload_chain.proofs.WalkLemmas.{if_err, buffer-after}
+use Rattle.payload_chain.proofs.WalkLemmas.{if_err, buffer-after, noted-on}
 use Rattle.payload_chain.proofs.GiveLemmas.{page-later}
-use Rattle.payload_chain.proofs.PutLemmas.{popped, popped-among, chunk-of, zeros-behind, puts-on, put-refused, puts-done}
+use Rattle.payload_chain.proofs.PutLemmas.{popped, popped-among, chunk-of, zeros-behind, puts-on, put-refused, put-others, puts-done}
 use Rattle.payload_chain.proofs.write.put_pages.Goals as goal
 
 pub put-requires-clause-there : goal.put-requires-clause-there
@@ -44,6 +44,17 @@ returns-in_err-put-clause-cause g c =
     (put-refused (state c.args.space.now) (state c.loop-number.space) (state c.put.new.self) c.args.numbers.items c.loop-number.numbers.items c.pop.new.self.items
     c.args.rest.now c.loop-number.page.items c.in-Some.number c.loop-number.next c.loop-number.end c.in_err-put.field-0.0 along pop c.in_err-put.ensures.cause)
 
+pub returns-in_err-put-clause-others : goal.returns-in_err-put-clause-others
+returns-in_err-put-clause-others g c =
+    let state = g.S.PageSpace.state in
+    put-others (state c.args.space.now) (state c.loop-number.space) (state c.put.new.self) c.args.numbers.items c.loop-number.numbers.items
+    c.args.rest.now c.loop-number.page.items c.loop-number.next c.loop-number.end c.loop-number.invariant c.in_err-put.ensures.leaves
+
+pub returns-in_err-put-clause-noted : goal.returns-in_err-put-clause-noted
+returns-in_err-put-clause-noted g c =
+    let state = g.S.PageSpace.state in
+    noted-on (state c.args.space.now) (state c.loop-number.space) (state c.put.new.self) c.loop-number.invariant.steady c.loop-number.invariant.noted (inr c.in_err-put.ensures.leaves)
+
 pub loop-number-preserved : goal.loop-number-preserved
 loop-number-preserved g c =
     let state = g.S.PageSpace.state in
@@ -72,5 +83,5 @@ pub returns-clause-put : goal.returns-clause-put
 returns-clause-put g c =
     let state = g.S.PageSpace.state in
     let none : length c.loop-number.numbers.items ≡ 0 = search rules in
-    λ t. puts-done (state c.args.space.now) (state c.loop-number.space) c.args.numbers.items c.loop-number.numbers.items c.args.rest.now c.loop-number.page.items
-    c.loop-number.next c.loop-number.end c.loop-number.invariant none c.requires.there c.requires.enough t
+    λ t different. puts-done (state c.args.space.now) (state c.loop-number.space) c.args.numbers.items c.loop-number.numbers.items c.args.rest.now c.loop-number.page.items
+    c.loop-number.next c.loop-number.end c.loop-number.invariant none c.requires.there c.requires.enough t different

@@ -1,10 +1,10 @@
 use Rattle.std.proofs.Common.{◌∙◌, length, refl, arith, sym, ap}
-use Rattle.std.proofs.lemmas.Result.{IfOk-weaker}
+use Rattle.page_list.specs.Pages.{AllDifferent}
 use Rattle.page_list.specs.Chain.{pages_needed}
-use Rattle.payload_chain.specs.Chains.{Wrote, WriteRefused}
+use Rattle.payload_chain.specs.Chains.{Wrote, WriteRefused, WriteLeaves}
 use Rattle.payload_chain.specs.Steps.{PutRefused, HasPut}
-use Rattle.payload_chain.proofs.WalkLemmas.{if_err, if_err-map, tells-on, counted_needed}
-use Rattle.payload_chain.proofs.TakeLemmas.{wrote, write-refused, put-chain-refused}
+use Rattle.payload_chain.proofs.WalkLemmas.{if_err, if_err-map, on_err, all_ok, tells-on, noted-on, counted_needed}
+use Rattle.payload_chain.proofs.TakeLemmas.{wrote, write-refused, write-leaves, put-chain-refused, put-leaves}
 use Rattle.payload_chain.proofs.write.write_chain.Goals as goal
 
 pub returns-in_err-numbers-clause-cause : goal.returns-in_err-numbers-clause-cause
@@ -36,7 +36,7 @@ returns-clause-cause g c =
     c.div_ceil-needed.ensures refl c.room.ensures.value (omega arith) in
     if_err-map c.put_pages.result (PutRefused mid new c.in_ok-numbers.numbers.items) (WriteRefused old new (length c.args.rest.now)) c.put_pages.ensures.cause
     (λ fault cause. put-chain-refused old mid new c.in_ok-numbers.numbers.items (length c.args.rest.now) fault c.in_ok-numbers.ensures.steady
-    c.in_ok-numbers.ensures.took (c.in_ok-numbers.ensures.count ∙ needed) cause)
+    c.in_ok-numbers.ensures.took (c.in_ok-numbers.ensures.count ∙ needed) c.put_pages.ensures.others cause)
 
 pub returns-clause-wrote : goal.returns-clause-wrote
 returns-clause-wrote g c =
@@ -47,7 +47,38 @@ returns-clause-wrote g c =
     let least = c.room.ensures.sizes.least in
     let needed = counted_needed c.div_ceil-needed.result (length c.args.rest.now) c.room.result c.room.result old.pages.usable
     c.div_ceil-needed.ensures refl c.room.ensures.value (omega arith) in
-    λ t. IfOk-weaker c.put_pages.result (λ first. HasPut mid.pages new.pages first c.in_ok-numbers.numbers.items c.args.rest.now) (λ first. Wrote old new first c.args.rest.now)
+    λ t.
+    let told = tells-on old mid c.in_ok-numbers.ensures.steady t in
+    all_ok c.put_pages.result (AllDifferent c.in_ok-numbers.numbers.items) (λ first. HasPut new.pages first c.in_ok-numbers.numbers.items c.args.rest.now) (λ first. Wrote old new first c.args.rest.now)
+    (c.put_pages.ensures.put told)
     (λ first put. wrote old mid new first c.in_ok-numbers.numbers.items c.args.rest.now c.requires.some (c.in_ok-numbers.ensures.took t)
-    (c.in_ok-numbers.ensures.count ∙ needed) put c.put_pages.ensures.size c.put_pages.ensures.steady.used)
-    (c.put_pages.ensures.put (tells-on old mid c.in_ok-numbers.ensures.steady t))
+    (c.in_ok-numbers.ensures.count ∙ needed) (c.put_pages.ensures.others told) put c.put_pages.ensures.size c.put_pages.ensures.steady.used)
+
+pub returns-in_err-numbers-clause-leaves : goal.returns-in_err-numbers-clause-leaves
+returns-in_err-numbers-clause-leaves g c =
+    let state = g.S.PageSpace.state in
+    let old = state c.args.space.now in
+    let new = state c.take_pages.new.space in
+    let least = c.room.ensures.sizes.least in
+    let needed = counted_needed c.div_ceil-needed.result (length c.args.rest.now) c.room.result c.room.result old.pages.usable
+    c.div_ceil-needed.ensures refl c.room.ensures.value (omega arith) in
+    λ t. on_err c.from_residual.result (WriteLeaves old new (length c.args.rest.now))
+    (write-leaves old new c.div_ceil-needed.result (length c.args.rest.now) needed (c.in_err-numbers.ensures.leaves t))
+
+pub returns-clause-leaves : goal.returns-clause-leaves
+returns-clause-leaves g c =
+    let state = g.S.PageSpace.state in
+    let old = state c.args.space.now in
+    let mid = state c.take_pages.new.space in
+    let new = state c.put_pages.new.space in
+    let least = c.room.ensures.sizes.least in
+    let needed = counted_needed c.div_ceil-needed.result (length c.args.rest.now) c.room.result c.room.result old.pages.usable
+    c.div_ceil-needed.ensures refl c.room.ensures.value (omega arith) in
+    λ t. on_err c.put_pages.result (WriteLeaves old new (length c.args.rest.now))
+    (put-leaves old mid new c.in_ok-numbers.numbers.items (length c.args.rest.now) (c.in_ok-numbers.ensures.took t) (c.in_ok-numbers.ensures.count ∙ needed)
+    c.put_pages.ensures.size (c.put_pages.ensures.others (tells-on old mid c.in_ok-numbers.ensures.steady t)))
+
+pub returns-clause-noted : goal.returns-clause-noted
+returns-clause-noted g c =
+    let state = g.S.PageSpace.state in
+    noted-on (state c.args.space.now) (state c.take_pages.new.space) (state c.put_pages.new.space) c.in_ok-numbers.ensures.steady c.in_ok-numbers.ensures.noted c.put_pages.ensures.noted

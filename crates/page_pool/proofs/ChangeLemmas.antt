@@ -46,7 +46,6 @@ changes_two old new number p v q w mid content good one two below = record {
 pub record TrunkRead (old : Pages) (trunk leaves : ℕ) : Type 0 where
   pub is_trunk : TrunkIs old trunk
   pub counted : leaf_count old trunk ≡ leaves
-  pub first_good : IsGood old 1
   pub room : 480 ≤ old.usable
 
 pub took_trunk : (old new : Pages) (number next count : ℕ) (mid first : List ℕ) → TrunkRead old number 0 → next ≡ next_trunk old number
@@ -57,7 +56,7 @@ took_trunk old new number next count mid first read next_is names count_is count
       is_trunk = read.is_trunk;
       none = read.counted;
       only = writes.only;
-      in_first = changes_two old new 1 32 next 36 count mid first read.first_good names counts writes.below;
+      in_first = changes_two old new 1 32 next 36 count mid first read.is_trunk.first_good names counts writes.below;
       next = λ _. below_word old.usable new 1 first 32 writes.below (omega arith) ∙ sets_before mid first 36 count 32 counts (omega arith) ∙ names.inside ∙ next_is;
       counts = λ _.
           below_word old.usable new 1 first 36 writes.below (omega arith) ∙ counts.inside ∙ count_is
@@ -77,7 +76,7 @@ took_leaf old new trunk number leaves less count page first read some is there l
       only = writes.only;
       in_trunk = λ other. changes_one old new trunk 4 less page writes.was_good fewer (writes.below other);
       fewer = λ other. below_word old.usable new trunk page 4 (writes.below other) (omega arith) ∙ fewer.inside ∙ less_is ∙ ap (λ n. n - 1) (sym read.counted);
-      in_first = λ _. changes_one old new 1 36 count first read.first_good counts writes.first_below;
+      in_first = λ _. changes_one old new 1 36 count first read.is_trunk.first_good counts writes.first_below;
       counts = λ _. below_word old.usable new 1 first 36 writes.first_below (omega arith) ∙ counts.inside ∙ count_is;
     }
 
@@ -106,7 +105,7 @@ gave_leaf old new trunk number leaves more count mid page first read few more_is
       last = λ other.
           ap (λ place. word new trunk place) (sym place_is)
           ∙ below_word old.usable new trunk page (8 + 4 * leaves) (writes.below other) leaf_fits ∙ last.inside;
-      in_first = λ _. changes_one old new 1 36 count first read.first_good counts writes.first_below;
+      in_first = λ _. changes_one old new 1 36 count first read.is_trunk.first_good counts writes.first_below;
       counts = λ _. below_word old.usable new 1 first 36 writes.first_below (omega arith) ∙ counts.inside ∙ count_is;
     }
 

@@ -1,10 +1,10 @@
 -- What the private steps of taking and giving a page answer, over states.
-use Rattle.std.proofs.Common.{◌≡◌, ◌≢◌, ℕ, ◌+◌, ◌-◌, ◌*◌, ◌≤◌, ◌<◌, ◌⊎◌, min, List, IsTrue, Result, Ok, Err, refl, ⊎_elim, sym, ap, ◌∙◌, subst, inl, inr, arith}
+use Rattle.std.proofs.Common.{◌≡◌, ◌≢◌, ℕ, ◌+◌, ◌-◌, ◌*◌, ◌≤◌, ◌<◌, ◌⊎◌, min, List, IsTrue, Result, Ok, Err, refl, sym, ap, ◌∙◌, subst, inl, inr, arith}
 use Rattle.std.proofs.Math.ListN.{replicate}
 use Rattle.page_list.specs.Pages.{HasPage, number_in}
 use Rattle.page_list.specs.Freelist.{first_trunk, leaf_count, full}
 use Rattle.page_pool.specs.Space.{SpaceState, Steady, Fails}
-use Rattle.page_pool.specs.Pool.{NoRoom, GiveCause, TookLeaf, GaveLeaf}
+use Rattle.page_pool.specs.Pool.{NoRoom, GiveAsks, GiveCause, TookLeaf, GaveLeaf}
 use Rattle.page_pool.specs.Edits.{Sets}
 use Rattle.page_pool.specs.Steps.{ReadsPage, ReadsTrunk, Names, PageWritten, BothWritten, WriteCause, Takes, Gives}
 use Rattle.db_format.specs.declared.fault.SpaceFault.{SpaceFault}
@@ -22,13 +22,13 @@ trunk_is s first trunk holds read names told =
     let counted : leaf_count s.pages trunk.number ≡ trunk.leaves = ap (λ x. number_in x 4) (sym (read.holds.is_page told)) ∙ sym read.counted in
     record {
       is_trunk = record {
+        first_good = holds.good told;
         is_first = sym names.named ∙ first_is s first holds told;
         there = read.there;
         good = read.holds.good told;
         few = omega (arith, counted, read.few);
       };
       counted = counted;
-      first_good = holds.good told;
       room = holds.sizes.least;
     }
 
@@ -85,16 +85,21 @@ takes_leaf old new first last page trunk leaf less count some holds read names l
 
 -- a write that was refused
 gives_refused : (old new : SpaceState) (number other : ℕ) (page last : List ℕ) (fault : SpaceFault) → Steady old new
-    → (IsTrue old.tells → (other ≡ first_trunk old.pages) ⊎ (other ≡ number)) → WriteCause old new other (Err fault)
+    → (IsTrue old.tells → GiveAsks old.pages number other) → WriteCause old new other (Err fault)
     → BothWritten old new other page last (Err fault) → GiveCause old new number (Err fault) → Gives old new number (Err fault)
-gives_refused old new number other page last fault steady which cause written given = record {
+gives_refused old new number other page last fault steady asks cause written given = record {
   steady = steady;
   size = written.size;
   cause = given;
   refused = λ told. record {
     size = written.size;
-    each = λ n differs trunk given. (written.refused told).each n differs
-        (λ e. ⊎_elim (λ (is : other ≡ first_trunk old.pages). trunk (e ∙ is)) (λ (is : other ≡ number). given (e ∙ is)) (which told));
+    each = λ n differs trunk given. (written.refused told).each n differs (λ e. elim (asks told) as (λ _. ⊥) [
+      | inl take ↦ elim take as (λ _. ⊥) [
+        | inl is ↦ differs (e ∙ is)
+        | inr named ↦ trunk (e ∙ named.2)
+      ]
+      | inr whole ↦ given (e ∙ whole.2)
+    ]);
   };
   untouched = written.untouched;
   done = tt;
@@ -102,14 +107,15 @@ gives_refused old new number other page last fault steady which cause written gi
 }
 
 -- its cause
-given_cause : (old new : SpaceState) (number other : ℕ) (fault : SpaceFault) → (IsTrue old.tells → (other ≡ first_trunk old.pages) ⊎ (other ≡ number))
+given_cause : (old new : SpaceState) (number other : ℕ) (fault : SpaceFault) → (IsTrue old.tells → GiveAsks old.pages number other)
     → WriteCause old new other (Err fault) → GiveCause old new number (Err fault)
-given_cause old new number other Failed which cause = cause
-given_cause old new number other Memory which cause = tt
-given_cause old new number other (Bad page kept found) which cause = λ told.
-    (subst (λ n. Fails old n kept found) (sym (cause told).0) (cause told).1, inr (⊎_elim (λ (is : other ≡ first_trunk old.pages). inl ((cause told).0 ∙ is)) (λ (is : other ≡ number). inr ((cause told).0 ∙ is)) (which told)))
-given_cause old new number other (Corrupt page) which cause = absurd cause
-given_cause old new number other (Large pages) which cause = absurd cause
+given_cause old new number other Failed asks cause = cause
+given_cause old new number other Memory asks cause = tt
+given_cause old new number other (Bad page kept found) asks cause = λ told.
+    let P : ℕ → Type 0 = λ n. Fails old n kept found × GiveAsks old.pages number n in
+    subst P (sym (cause told).0) ((cause told).1, asks told)
+given_cause old new number other (Corrupt page) asks cause = absurd cause
+given_cause old new number other (Large pages) asks cause = absurd cause
 
 gives_leaf_ok : (old new : SpaceState) (first last mid page : List ℕ) (trunk : TrunkPage) (number more count : ℕ) → ReadsPage old 1 first
     → ReadsTrunk old trunk → Names first trunk.number → trunk.leaves < full old.pages.usable → more ≡ trunk.leaves + 1 → Sets trunk.page mid 4 more
@@ -157,8 +163,9 @@ pub gives_leaf : (old new : SpaceState) (first last mid page : List ℕ) (trunk 
 gives_leaf old new first last mid page trunk number more count (Ok _) holds read names few more_is one_more leaf count_is counts steady cause written =
     gives_leaf_ok old new first last mid page trunk number more count holds read names few more_is one_more leaf count_is counts steady written
 gives_leaf old new first last mid page trunk number more count (Err fault) holds read names few more_is one_more leaf count_is counts steady cause written =
-    let which = λ (told : IsTrue old.tells). inl ((trunk_is old first trunk holds read names told).is_trunk.is_first) in
-    gives_refused old new number trunk.number page last fault steady which cause written (given_cause old new number trunk.number fault which cause)
+    let asks : IsTrue old.tells → GiveAsks old.pages number trunk.number = λ told.
+    let is = (trunk_is old first trunk holds read names told).is_trunk in inl (inr (is.first_good, is.there, is.is_first)) in
+    gives_refused old new number trunk.number page last fault steady asks cause written (given_cause old new number trunk.number fault asks cause)
 
 pub gives_trunk : (old new : SpaceState) (first mid last zeros page : List ℕ) (size number next count : ℕ) (result : Result Unit SpaceFault) → ReadsPage old 1 first
     → (IsTrue old.tells → NoRoom old.pages) → zeros ≡ replicate size 0 → next ≡ number_in first 32 → Sets zeros page 0 next
@@ -168,5 +175,5 @@ pub gives_trunk : (old new : SpaceState) (first mid last zeros page : List ℕ) 
 gives_trunk old new first mid last zeros page size number next count (Ok _) holds no_room zeros_are next_is following named count_is counts steady cause written =
     gives_trunk_ok old new first mid last zeros page size number next count holds no_room zeros_are next_is following named count_is counts steady written
 gives_trunk old new first mid last zeros page size number next count (Err fault) holds no_room zeros_are next_is following named count_is counts steady cause written =
-    let which = λ (told : IsTrue old.tells). inr refl in
-    gives_refused old new number number page last fault steady which cause written (given_cause old new number number fault which cause)
+    let asks : IsTrue old.tells → GiveAsks old.pages number number = λ told. inr (holds.good told, no_room told, refl) in
+    gives_refused old new number number page last fault steady asks cause written (given_cause old new number number fault asks cause)

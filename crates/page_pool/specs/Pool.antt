@@ -25,9 +25,10 @@ pub record OnlyTwo (old new : Pages) (a b : ℕ) : Type 0 where
   pub size : new.size ≡ old.size
   pub each : (number : ℕ) → number ≢ a → number ≢ b → SamePage old new number
 
--- the first trunk is a page, good and well formed. Only in a damaged database it is page 1; what is said of the bytes
+-- page 1 is good and names this trunk, which is a page, good and well formed. Only in a damaged database it is page 1; what is said of the bytes
 -- afterwards is not said then
 pub record TrunkIs (pages : Pages) (trunk : ℕ) : Type 0 where
+  pub first_good : IsGood pages 1
   pub is_first : trunk ≡ first_trunk pages
   pub there : HasPage pages trunk
   pub good : IsGood pages trunk
@@ -102,31 +103,38 @@ Gave old new number = GaveTrunk old new number ⊎ GaveLeaf old new (first_trunk
 abbrev pub NoTrunk : Pages → ℕ → Type 0
 NoTrunk pages page = IsGood pages 1 × (first_trunk pages ≢ 0) × ¬ (HasPage pages (first_trunk pages)) × (page ≡ 1)
 
--- the first trunk, which is good, is malformed
+-- the first trunk, which is a page and good, is malformed
 abbrev pub BadTrunk : Pages → ℕ → Type 0
-BadTrunk pages page = HasPage pages page × IsGood pages page × (page ≡ first_trunk pages) × (most_leaves pages.usable < leaf_count pages page)
+BadTrunk pages page = IsGood pages 1 × HasPage pages page × IsGood pages page × (page ≡ first_trunk pages) × (most_leaves pages.usable < leaf_count pages page)
 
 -- the last leaf of the first trunk is out of range: the trunk holds its number
 abbrev pub NoLeaf : Pages → ℕ → Type 0
 NoLeaf pages page = TrunkIs pages page × (1 ≤ leaf_count pages page) × ¬ (HasPage pages (leaf_at pages page (leaf_count pages page - 1)))
 
--- why no page could be taken: Corrupt in three ways, Bad where page 1 or the trunk fails, Large where the
+-- the pages that taking one asks for: page 1, and the first trunk where page 1 is good and names one that is there
+abbrev pub TakeAsks : Pages → ℕ → Type 0
+TakeAsks pages page = (page ≡ 1) ⊎ (IsGood pages 1 × HasPage pages page × (page ≡ first_trunk pages))
+
+-- giving one asks for these too, and for the page itself where it becomes a trunk, since what it held may have to be kept
+abbrev pub GiveAsks : Pages → ℕ → ℕ → Type 0
+GiveAsks pages number page = TakeAsks pages page ⊎ (IsGood pages 1 × NoRoom pages × (page ≡ number))
+
+-- why no page could be taken: Corrupt in three ways, Bad where a page that is asked for fails, Large where the
 -- freelist is empty and one page more passes the greatest database
 abbrev pub TakeCause : SpaceState → SpaceState → Result ℕ SpaceFault → Type 0
 TakeCause old new (Ok number) = IsTrue old.tells → Took old new number
 TakeCause old new (Err Failed) = Rose old new
 TakeCause old new (Err Memory) = Unit {0}
-TakeCause old new (Err (Bad page kept found)) = IsTrue old.tells → Fails old page kept found × ((page ≡ 1) ⊎ (page ≡ first_trunk old.pages))
+TakeCause old new (Err (Bad page kept found)) = IsTrue old.tells → Fails old page kept found × TakeAsks old.pages page
 TakeCause old new (Err (Corrupt page)) = IsTrue old.tells → NoTrunk old.pages page ⊎ (BadTrunk old.pages page ⊎ NoLeaf old.pages page)
-TakeCause old new (Err (Large pages)) = IsLarge old × (pages ≡ old.pages.size + 1) × (IsTrue old.tells → first_trunk old.pages ≡ 0)
+TakeCause old new (Err (Large pages)) = IsLarge old × (pages ≡ old.pages.size + 1) × (IsTrue old.tells → IsGood old.pages 1 × (first_trunk old.pages ≡ 0))
 
--- why a page could not be given: Corrupt in two ways, Bad where page 1, the trunk, or the page that becomes a trunk fails
+-- why a page could not be given: Corrupt in two ways, Bad where a page that is asked for fails
 abbrev pub GiveCause : SpaceState → SpaceState → ℕ → Result Unit SpaceFault → Type 0
 GiveCause old new number (Ok _) = IsTrue old.tells → Gave old.pages new.pages number
 GiveCause old new number (Err Failed) = Rose old new
 GiveCause old new number (Err Memory) = Unit {0}
-GiveCause old new number (Err (Bad page kept found)) =
-    IsTrue old.tells → Fails old page kept found × ((page ≡ 1) ⊎ ((page ≡ first_trunk old.pages) ⊎ (page ≡ number)))
+GiveCause old new number (Err (Bad page kept found)) = IsTrue old.tells → Fails old page kept found × GiveAsks old.pages number page
 GiveCause old new number (Err (Corrupt page)) = IsTrue old.tells → NoTrunk old.pages page ⊎ BadTrunk old.pages page
 GiveCause old new number (Err (Large pages)) = ⊥
 

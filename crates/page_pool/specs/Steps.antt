@@ -3,7 +3,7 @@ use Rattle.std.specs.Prelude.{◌≡◌, ◌≢◌, ℕ, ◌≤◌, ◌<◌, ◌
 use Rattle.page_list.specs.Pages.{Pages, HasPage, IsGood, number_in}
 use Rattle.page_list.specs.Freelist.{first_trunk, leaf_count, most_leaves}
 use Rattle.page_pool.specs.Space.{SpaceState, HasSizes, Steady, Stays, Rose, Fails}
-use Rattle.page_pool.specs.Pool.{OnlyTwo, OnlyThree, NoTrunk, BadTrunk, TakeCause, GiveCause, Untouched, NotesChange}
+use Rattle.page_pool.specs.Pool.{OnlyTwo, OnlyThree, NoTrunk, BadTrunk, TakeAsks, TakeCause, GiveCause, Untouched, NotesChange}
 use Rattle.db_format.specs.declared.fault.SpaceFault.{SpaceFault}
 use Rattle.db_format.specs.declared.fault.SpaceFault.TheVariants.{Failed, Memory, Bad, Corrupt, Large}
 use Rattle.page_pool.specs.declared.head.Head.{Head}
@@ -56,7 +56,7 @@ abbrev pub HeadCause : SpaceState → SpaceState → Result Head SpaceFault → 
 HeadCause old new (Ok head) = ReadsHead old head
 HeadCause old new (Err Failed) = Rose old new
 HeadCause old new (Err Memory) = Unit {0}
-HeadCause old new (Err (Bad page kept found)) = IsTrue old.tells → Fails old page kept found × ((page ≡ 1) ⊎ (page ≡ first_trunk old.pages))
+HeadCause old new (Err (Bad page kept found)) = IsTrue old.tells → Fails old page kept found × TakeAsks old.pages page
 HeadCause old new (Err (Corrupt page)) = IsTrue old.tells → NoTrunk old.pages page ⊎ BadTrunk old.pages page
 HeadCause old new (Err (Large pages)) = ⊥
 

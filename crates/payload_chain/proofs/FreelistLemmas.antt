@@ -45,10 +45,10 @@ no_trunk pages (trunk ∷ more) page free why =
     why.2 (subst P free.linked.0 (free.within trunk.number (among-here trunk.number (trunk.leaves ++ free_pages more))).0)
 
 pub bad_trunk : (pages : Pages) (trunks : List Trunk) (page : ℕ) → IsFreelist pages trunks → ¬ (BadTrunk pages page)
-bad_trunk pages [] page free why = let is = why.2 in let none = free.linked in let least = why.0.least in absurd (omega arith)
+bad_trunk pages [] page free why = let is = why.3 in let none = free.linked in let least = why.1.least in absurd (omega arith)
 bad_trunk pages (trunk ∷ more) page free why =
     let P : ℕ → Type 0 = λ n. most_leaves pages.usable < leaf_count pages n in
-    let many : most_leaves pages.usable < leaf_count pages trunk.number = subst P (why.2 ∙ sym free.linked.0) why.3 in
+    let many : most_leaves pages.usable < leaf_count pages trunk.number = subst P (why.3 ∙ sym free.linked.0) why.4 in
     let few = free.linked.1.few in
     let counted = free.linked.1.counted in absurd (omega arith)
 

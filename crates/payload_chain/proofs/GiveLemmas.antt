@@ -7,7 +7,7 @@ use Rattle.std.specs.Int.{div_ceil}
 use Rattle.std.proofs.lemmas.Bool.{cases_lt}
 use Rattle.page_list.proofs.ChainLemmas.{times-append, among-here, among-front, among-back, among-cons}
 use Rattle.page_pool.specs.Space.{SpaceState, HasSizes, Steady, PagesStay, Stays}
-use Rattle.page_pool.specs.Pool.{Gave, GivesTo, GiveCause, NoTrunk, BadTrunk, OnlyThree, Untouched, AtWords, give_to}
+use Rattle.page_pool.specs.Pool.{Gave, GivesTo, GiveCause, NoTrunk, BadTrunk, GiveAsks, OnlyThree, Untouched, AtWords, give_to}
 use Rattle.payload_chain.specs.Chains.{GaveOne, AfterGives, AreApart, SparesFirst, OnlyGiven, Freed, Gives, FreeRefused, FreeLeaves, ReadRefused, give_each}
 use Rattle.payload_chain.proofs.ListLemmas.{take-next, split-at}
 use Rattle.payload_chain.proofs.FreelistLemmas.{no_trunk, bad_trunk, give_to-times, word-at, not_among_more}
@@ -267,9 +267,9 @@ free-refused old mid new first len numbers (Bad page kept found) steady stays ha
       met = stops.met;
       number = stops.number;
       gives = gives-at old mid first len numbers
-          (λ met number. ((page ≡ 1) ⊎ ((page ≡ first_trunk met) ⊎ (page ≡ number))) × (met.bad page ≡ Some (kept, found)) × PagesStay met new.pages)
+          (λ met number. GiveAsks met number page × (met.bad page ≡ Some (kept, found)) × PagesStay met new.pages)
           steady stays t (has t) stops;
-      which = stops.why.0;
+      asks = stops.why.0;
       fails = stops.why.1;
       still = stops.why.2;
     })

@@ -13,8 +13,8 @@ use Rattle.page_list.specs.Chain.{AreLinked, IsChain, next_page, piece, pages_ne
 use Rattle.page_list.proofs.ChainLemmas.{times-append, times-same, among-here, among-cons, among-back, same_or_other}
 use Rattle.page_pool.specs.Space.{SpaceState, HasSizes, Steady, Stays, Holds, Put, PageCause, IsZeroFrom}
 use Rattle.page_pool.specs.Pool.{NotesChange}
-use Rattle.payload_chain.specs.Chains.{OnlyThese}
-use Rattle.payload_chain.specs.Steps.{HasEach, HasPut, PutRefused}
+use Rattle.payload_chain.specs.Chains.{IsWritten, OnlyThese}
+use Rattle.payload_chain.specs.Steps.{HasEach, PutRefused}
 use Rattle.payload_chain.proofs.WalkLemmas.{take-join, needed_is, needed_enough, steady-on, tells-on, rose-on}
 use Rattle.db_format.specs.declared.fault.SpaceFault.{SpaceFault}
 use Rattle.db_format.specs.declared.fault.SpaceFault.TheVariants.{Failed, Memory, Bad, Corrupt, Large}
@@ -349,7 +349,7 @@ put-others old now new all left rest page next end along still t n out =
 
 -- all pages are put
 pub puts-done : (old now : SpaceState) (all left rest page : List ℕ) (first end : ℕ) → PutsAlong old now all left first end rest page → length left ≡ 0
-    → HasEach old.pages all → length all ≡ pages_needed old.pages.usable (length rest) → IsTrue old.tells → AllDifferent all → HasPut now.pages first all rest
+    → HasEach old.pages all → length all ≡ pages_needed old.pages.usable (length rest) → IsTrue old.tells → AllDifferent all → IsWritten now.pages first all rest
 puts-done old now all left rest page first end along none there enough t different =
     let ends = along.ends in
     let product : (old.pages.usable - 4) * length left ≡ 0 = ap (λ n. (old.pages.usable - 4) * n) none ∙ mul-zero (old.pages.usable - 4) in

@@ -7,8 +7,8 @@ use Rattle.page_list.specs.Chain.{pages_needed}
 use Rattle.page_list.proofs.ChainLemmas.{among-more, times-same, times-other, same_or_other, among-here, among-cons}
 use Rattle.page_pool.specs.Space.{SpaceState, Steady, Stays, Grew}
 use Rattle.page_pool.specs.Pool.{Took, TakesFrom, TakeCause, OnlyTwo, Untouched, take_from, taken_page, without_last}
-use Rattle.payload_chain.specs.Chains.{TookOne, AfterTakes, Wrote, WriteRefused, WriteLeaves, OnlyThese, LeftOf, take_each, size_after, taken_pages, trunk_numbers}
-use Rattle.payload_chain.specs.Steps.{HasEach, HasPut, PutRefused, TakeRefused, TakeLeaves}
+use Rattle.payload_chain.specs.Chains.{TookOne, AfterTakes, Wrote, IsWritten, WriteRefused, WriteLeaves, OnlyThese, LeftOf, take_each, size_after, taken_pages, trunk_numbers}
+use Rattle.payload_chain.specs.Steps.{HasEach, PutRefused, TakeRefused, TakeLeaves}
 use Rattle.payload_chain.proofs.FreelistLemmas.{freelist-same, no_trunk, bad_trunk, no_leaf, take_from-times}
 use Rattle.payload_chain.proofs.WalkLemmas.{rose-on, tells-on}
 use Rattle.db_format.specs.Header.{greatest_length}
@@ -210,7 +210,7 @@ takes-freelist old new (n ∷ more) trunks after free =
 -- what a chain that was written leaves
 pub wrote : (old mid new : SpaceState) (first : ℕ) (numbers rest : List ℕ) → 1 ≤ old.pages.size → AfterTakes old numbers mid
     → length numbers ≡ pages_needed old.pages.usable (length rest) → OnlyThese mid.pages new.pages numbers
-    → (AllDifferent numbers → HasPut new.pages first numbers rest) → new.pages.size ≡ mid.pages.size
+    → (AllDifferent numbers → IsWritten new.pages first numbers rest) → new.pages.size ≡ mid.pages.size
     → new.pages.usable ≡ mid.pages.usable → Wrote old new first rest
 wrote old mid new first numbers rest some after enough others put size used = record {
   numbers = numbers;
@@ -219,6 +219,7 @@ wrote old mid new first numbers rest some after enough others put size used = re
   enough = enough;
   size = size;
   others = others;
+  written = put;
   freelist = λ trunks free.
       let took = takes-freelist old mid numbers trunks after free in
       let left : List Trunk = take_each (length numbers) trunks in
@@ -227,14 +228,11 @@ wrote old mid new first numbers rest some after enough others put size used = re
         | inr below ↦ omega (arith, took.kept m below, free.different.once m)
       ] in
       let not_1 : ¬ (Among numbers 1) = λ among. first-free old.pages trunks free (omega (arith, took.kept 1 some)) in
-      let holds = put (record { once = λ m. omega (arith, apart m) }) in
       record {
         taken = took.taken;
+        different = record { once = λ m. omega (arith, apart m) };
         left = freelist-same mid.pages new.pages left used (omega arith) (others 1 not_1).bytes_stay
             (λ m among. (others m (λ again. absurd (omega (arith, apart m)))).bytes_stay) took.left;
-        chain = holds.chain;
-        behind = holds.behind;
-        zeros = holds.zeros;
         others = λ m n1 n2 n3. same-on old.pages mid.pages new.pages m (took.others m (behind_first m n1) n2 n3) (others m n3);
       };
 }
@@ -295,7 +293,7 @@ write-refused old new count len (Bad page kept found) is cause = λ t.
     inl (record {
       met = stops.met;
       takes = record { taken = stops.taken; took = stops.took; fewer = omega (arith, stops.fewer); still = stops.still };
-      which = stops.why.0;
+      asks = stops.why.0;
       fails = stops.why.1;
     })
 write-refused old new count len (Corrupt page) is cause = λ t.
@@ -320,7 +318,7 @@ write-refused old new count len (Large pages) is cause = record {
   large = cause.1;
   one_more = cause.2;
   empty = λ t. let stops = cause.3 t in
-      record { met = stops.met; takes = record { taken = stops.taken; took = stops.took; fewer = omega (arith, stops.fewer); still = stops.still }; empty = stops.why };
+      record { met = stops.met; takes = record { taken = stops.taken; took = stops.took; fewer = omega (arith, stops.fewer); still = stops.still }; good = stops.why.0; empty = stops.why.1 };
 }
 
 pub put-chain-refused : (old mid new : SpaceState) (numbers : List ℕ) (len : ℕ) (fault : SpaceFault) → Steady old mid → (IsTrue old.tells → AfterTakes old numbers mid)

@@ -2,11 +2,11 @@
 -- After sqlite.org, "Database File Format", section 1.6, "Cell Payload Overflow Pages", and 1.5, "The Freelist".
 use Rattle.std.specs.Prelude.{◌≡◌, ◌≢◌, ◌⊎◌, ℕ, zero, suc, ◌+◌, ◌*◌, ◌≤◌, ◌<◌, List, [], ◌∷◌, ◌++◌, length, map, replicate, Some, IsTrue}
 use Rattle.std.specs.List.{flat_map}
-use Rattle.page_list.specs.Pages.{Pages, SamePage, Among}
+use Rattle.page_list.specs.Pages.{Pages, IsGood, SamePage, Among, AllDifferent}
 use Rattle.page_list.specs.Freelist.{Trunk, IsFreelist, first_trunk, free_pages}
 use Rattle.page_list.specs.Chain.{IsChain, BreaksAt, FailsAt, pages_needed, piece}
 use Rattle.page_pool.specs.Space.{SpaceState, PagesStay, Stays, Rose}
-use Rattle.page_pool.specs.Pool.{Gave, GivesTo, Took, TakesFrom, NoTrunk, BadTrunk, NoLeaf, OnlyTwo, OnlyThree, give_to, take_from, taken_page}
+use Rattle.page_pool.specs.Pool.{Gave, GivesTo, Took, TakesFrom, NoTrunk, BadTrunk, NoLeaf, TakeAsks, GiveAsks, OnlyTwo, OnlyThree, give_to, take_from, taken_page}
 use Rattle.db_format.specs.Header.{greatest_length}
 use Rattle.db_format.specs.declared.fault.SpaceFault.{SpaceFault}
 use Rattle.db_format.specs.declared.fault.SpaceFault.TheVariants.{Failed, Memory, Bad, Corrupt, Large}
@@ -89,12 +89,12 @@ pub record GiveBreaks (old new : Pages) (first len page : ℕ) : Type 0 where
   pub still : PagesStay met new
   pub damaged : (trunks : List Trunk) → IsFreelist old trunks → ¬ (AreApart gives.numbers trunks)
 
--- giving one of them met a page that fails its checksum, and changed nothing: page 1, the first trunk, or the page itself
+-- giving one of them asked for a page that fails its checksum, and changed nothing
 pub record GiveFails (old new : Pages) (first len page : ℕ) (sums : ℕ × ℕ) : Type 0 where
   pub met : Pages
   pub number : ℕ
   pub gives : Gives old first len met number
-  pub which : (page ≡ 1) ⊎ ((page ≡ first_trunk met) ⊎ (page ≡ number))
+  pub asks : GiveAsks met number page
   pub fails : met.bad page ≡ Some sums
   pub still : PagesStay met new
 
@@ -155,22 +155,26 @@ trunk_numbers trunks = map (λ trunk. trunk.number) trunks
 abbrev pub OnlyTaken : Pages → Pages → List Trunk → List ℕ → Type 0
 OnlyTaken old new trunks numbers = (number : ℕ) → 2 ≤ number → ¬ (Among (trunk_numbers trunks) number) → ¬ (Among numbers number) → SamePage old new number
 
--- the pages had this freelist: these are the pages that it gives, the rest of it is left, and the chain is in
--- them and holds these bytes, and zeros behind them. No page but page 1, the trunks and those of the chain has changed
-pub record WroteInto (old new : Pages) (trunks : List Trunk) (first : ℕ) (numbers payload : List ℕ) : Type 0 where
-  pub taken : numbers ≡ taken_pages old.size (length numbers) trunks
-  pub left : IsFreelist new (take_each (length numbers) trunks)
-  pub chain : IsChain new first numbers payload
+-- the chain is in these pages and holds these bytes, and zeros behind them
+pub record IsWritten (pages : Pages) (first : ℕ) (numbers payload : List ℕ) : Type 0 where
+  pub chain : IsChain pages first numbers payload
   pub behind : ℕ
-  pub zeros : flat_map (piece new) numbers ≡ payload ++ replicate behind 0
+  pub zeros : flat_map (piece pages) numbers ≡ payload ++ replicate behind 0
+
+-- the pages had this freelist: these are the pages that it gives, none of them twice, and the rest of it is left. No
+-- page but page 1, the trunks and those of the chain has changed
+pub record WroteInto (old new : Pages) (trunks : List Trunk) (numbers : List ℕ) : Type 0 where
+  pub taken : numbers ≡ taken_pages old.size (length numbers) trunks
+  pub different : AllDifferent numbers
+  pub left : IsFreelist new (take_each (length numbers) trunks)
   pub others : OnlyTaken old new trunks numbers
 
 -- no page but these has changed
 abbrev pub OnlyThese : Pages → Pages → List ℕ → Type 0
 OnlyThese old new numbers = (number : ℕ) → ¬ (Among numbers number) → SamePage old new number
 
--- as many pages as the bytes need were taken, and after that only they were changed; what they hold then is said
--- where the pages had a freelist, since a damaged one may give a page twice
+-- as many pages as the bytes need were taken, and after that only they were changed. They are a chain where none was
+-- taken twice: so it is where the pages had a freelist, and only a damaged one may give a page twice
 pub record Wrote (old new : SpaceState) (first : ℕ) (payload : List ℕ) : Type 0 where
   pub numbers : List ℕ
   pub met : SpaceState
@@ -178,7 +182,8 @@ pub record Wrote (old new : SpaceState) (first : ℕ) (payload : List ℕ) : Typ
   pub enough : length numbers ≡ pages_needed old.pages.usable (length payload)
   pub size : new.pages.size ≡ met.pages.size
   pub others : OnlyThese met.pages new.pages numbers
-  pub freelist : (trunks : List Trunk) → IsFreelist old.pages trunks → WroteInto old.pages new.pages trunks first numbers payload
+  pub written : AllDifferent numbers → IsWritten new.pages first numbers payload
+  pub freelist : (trunks : List Trunk) → IsFreelist old.pages trunks → WroteInto old.pages new.pages trunks numbers
 
 -- fewer pages than the bytes need were taken, and the next take met these pages and changed nothing
 pub record Takes (old new : SpaceState) (len : ℕ) (met : SpaceState) : Type 0 where
@@ -195,11 +200,11 @@ pub record TakeBreaks (old new : SpaceState) (len page : ℕ) : Type 0 where
   pub why : NoTrunk met.pages page ⊎ (BadTrunk met.pages page ⊎ NoLeaf met.pages page)
   pub damaged : (trunks : List Trunk) → ¬ (IsFreelist old.pages trunks)
 
--- a take met a page that fails its checksum: page 1 or the first trunk
+-- a take asked for a page that fails its checksum
 pub record TakeFails (old new : SpaceState) (len page : ℕ) (sums : ℕ × ℕ) : Type 0 where
   pub met : SpaceState
   pub takes : Takes old new len met
-  pub which : (page ≡ 1) ⊎ (page ≡ first_trunk met.pages)
+  pub asks : TakeAsks met.pages page
   pub fails : met.pages.bad page ≡ Some sums
 
 -- one of the pages taken fails its checksum, and could not be put
@@ -216,6 +221,7 @@ pub record PutFails (old new : SpaceState) (len page : ℕ) (sums : ℕ × ℕ) 
 pub record TakeEmpty (old new : SpaceState) (len : ℕ) : Type 0 where
   pub met : SpaceState
   pub takes : Takes old new len met
+  pub good : IsGood met.pages 1
   pub empty : first_trunk met.pages ≡ 0
 
 -- so many pages, one more than there then are, pass the greatest database, and the freelist had no page

@@ -1,5 +1,5 @@
 -- Words for the steps inside the crate; no contract of a function that it shows to others needs them.
-use Rattle.std.specs.Prelude.{◌≡◌, ◌⊎◌, ℕ, ◌+◌, ◌-◌, ◌*◌, ◌≤◌, ◌<◌, nat_lt, List, [], ◌∷◌, ◌++◌, length, take, replicate, Some, IsTrue}
+use Rattle.std.specs.Prelude.{◌≡◌, ◌⊎◌, ℕ, ◌+◌, ◌-◌, ◌*◌, ◌≤◌, ◌<◌, nat_lt, List, [], ◌∷◌, ◌++◌, length, take, Some, IsTrue}
 use Rattle.std.specs.List.{flat_map}
 use Rattle.std.specs.Ordering.{nat_cmp}
 use Rattle.std.specs.BTreeSet.{BTreeSet, contains}
@@ -8,7 +8,7 @@ use Rattle.page_list.specs.Pages.{AllDifferent, SamePage}
 use Rattle.page_list.specs.Freelist.{first_trunk}
 use Rattle.page_list.specs.Chain.{HasWalked, IsChain, holder, piece}
 use Rattle.page_pool.specs.Space.{SpaceState, PagesStay, Stays, Rose}
-use Rattle.page_pool.specs.Pool.{NoTrunk, BadTrunk, NoLeaf, OnlyTwo, OnlyThree}
+use Rattle.page_pool.specs.Pool.{NoTrunk, BadTrunk, NoLeaf, TakeAsks, GiveAsks, OnlyTwo, OnlyThree}
 use Rattle.db_format.specs.Header.{greatest_length}
 use Rattle.db_format.specs.declared.fault.SpaceFault.{SpaceFault}
 use Rattle.db_format.specs.declared.fault.SpaceFault.TheVariants.{Failed, Memory, Bad, Corrupt, Large}
@@ -84,7 +84,7 @@ GiveRefused old new numbers Failed = Rose old new
 GiveRefused old new numbers Memory = Unit {0}
 GiveRefused old new numbers (Bad page kept found) =
     IsTrue old.tells → GiveStops old.pages numbers
-    (λ met number. ((page ≡ 1) ⊎ ((page ≡ first_trunk met) ⊎ (page ≡ number))) × (met.bad page ≡ Some (kept, found)) × PagesStay met new.pages)
+    (λ met number. GiveAsks met number page × (met.bad page ≡ Some (kept, found)) × PagesStay met new.pages)
 GiveRefused old new numbers (Corrupt page) =
     IsTrue old.tells → GiveStops old.pages numbers (λ met number. (NoTrunk met page ⊎ BadTrunk met page) × PagesStay met new.pages)
 GiveRefused old new numbers (Large pages) = ⊥
@@ -106,11 +106,11 @@ abbrev pub TakeRefused : SpaceState → SpaceState → ℕ → SpaceFault → Ty
 TakeRefused old new count Failed = Rose old new
 TakeRefused old new count Memory = Unit {0}
 TakeRefused old new count (Bad page kept found) =
-    IsTrue old.tells → TakeStops old new count (λ met. ((page ≡ 1) ⊎ (page ≡ first_trunk met)) × (met.bad page ≡ Some (kept, found)))
+    IsTrue old.tells → TakeStops old new count (λ met. TakeAsks met page × (met.bad page ≡ Some (kept, found)))
 TakeRefused old new count (Corrupt page) = IsTrue old.tells → TakeStops old new count (λ met. NoTrunk met page ⊎ (BadTrunk met page ⊎ NoLeaf met page))
 TakeRefused old new count (Large pages) =
     (old.pages.size < pages) × (greatest_length < pages * old.page_size) × (pages ≡ new.pages.size + 1)
-    × (IsTrue old.tells → TakeStops old new count (λ met. first_trunk met ≡ 0))
+    × (IsTrue old.tells → TakeStops old new count (λ met. IsGood met 1 × (first_trunk met ≡ 0)))
 
 -- no more pages than these were taken, and of taking the next no page but page 1 and the first trunk has changed
 pub record TakeLeaves (old new : SpaceState) (count : ℕ) : Type 0 where
@@ -119,12 +119,6 @@ pub record TakeLeaves (old new : SpaceState) (count : ℕ) : Type 0 where
   pub took : AfterTakes old taken met
   pub no_more : length taken ≤ count
   pub only : OnlyTwo met.pages new.pages 1 (first_trunk met.pages)
-
--- pages are put, each once: they are now a chain, with zeros behind the bytes that it holds
-pub record HasPut (new : Pages) (first : ℕ) (numbers payload : List ℕ) : Type 0 where
-  pub chain : IsChain new first numbers payload
-  pub behind : ℕ
-  pub zeros : flat_map (piece new) numbers ≡ payload ++ replicate behind 0
 
 abbrev pub PutRefused : SpaceState → SpaceState → List ℕ → SpaceFault → Type 0
 PutRefused old new numbers Failed = Rose old new

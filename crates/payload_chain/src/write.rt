@@ -6,8 +6,8 @@ ghost use Rattle.page_list.specs.Pages.{HasPage, Among, AllDifferent};
 ghost use Rattle.page_list.specs.Chain.{pages_needed};
 ghost use Rattle.page_pool.specs.Space.{IsReady, IsWritable, Steady, Stays};
 ghost use Rattle.page_pool.specs.Pool.{NotesChange};
-ghost use Rattle.payload_chain.specs.Chains.{AfterTakes, Wrote, WriteRefused, WriteLeaves, OnlyThese};
-ghost use Rattle.payload_chain.specs.Steps.{HasEach, TakeRefused, TakeLeaves, PutRefused, HasPut};
+ghost use Rattle.payload_chain.specs.Chains.{AfterTakes, Wrote, IsWritten, WriteRefused, WriteLeaves, OnlyThese};
+ghost use Rattle.payload_chain.specs.Steps.{HasEach, TakeRefused, TakeLeaves, PutRefused};
 
 use crate::walk::{page_buffer, room};
 use byteorder::{BigEndian, ByteOrder};
@@ -84,7 +84,7 @@ fn put_pages<S: PageSpace>(
     ensures size { (S.state space.new).pages.size ≡ (S.state space.old).pages.size }
     ensures cause { IfErr result (PutRefused (S.state space.old) (S.state space.new) numbers.items) }
     ensures others { IsTrue (S.state space.old).tells → OnlyThese (S.state space.old).pages (S.state space.new).pages numbers.items }
-    ensures put { IsTrue (S.state space.old).tells → AllDifferent numbers.items → IfOk result (λ first. HasPut (S.state space.new).pages first numbers.items rest.now) }
+    ensures put { IsTrue (S.state space.old).tells → AllDifferent numbers.items → IfOk result (λ first. IsWritten (S.state space.new).pages first numbers.items rest.now) }
     ensures one { IfOk result (Among numbers.items) }
     ensures changed { OnOk result (IsTrue (S.state space.new).changed) }
     ensures noted { NotesChange (S.state space.old) (S.state space.new) }

@@ -1,8 +1,8 @@
 use Rattle.std.proofs.Common.{◌∙◌, length, refl, arith, sym, ap}
 use Rattle.page_list.specs.Pages.{AllDifferent}
 use Rattle.page_list.specs.Chain.{pages_needed}
-use Rattle.payload_chain.specs.Chains.{Wrote, WriteRefused, WriteLeaves}
-use Rattle.payload_chain.specs.Steps.{PutRefused, HasPut}
+use Rattle.payload_chain.specs.Chains.{Wrote, IsWritten, WriteRefused, WriteLeaves}
+use Rattle.payload_chain.specs.Steps.{PutRefused}
 use Rattle.payload_chain.proofs.WalkLemmas.{if_err, if_err-map, on_err, all_ok, tells-on, noted-on, counted_needed}
 use Rattle.payload_chain.proofs.TakeLemmas.{wrote, write-refused, write-leaves, put-chain-refused, put-leaves}
 use Rattle.payload_chain.proofs.write.write_chain.Goals as goal
@@ -49,7 +49,7 @@ returns-clause-wrote g c =
     c.div_ceil-needed.ensures refl c.room.ensures.value (omega arith) in
     λ t.
     let told = tells-on old mid c.in_ok-numbers.ensures.steady t in
-    all_ok c.put_pages.result (AllDifferent c.in_ok-numbers.numbers.items) (λ first. HasPut new.pages first c.in_ok-numbers.numbers.items c.args.rest.now) (λ first. Wrote old new first c.args.rest.now)
+    all_ok c.put_pages.result (AllDifferent c.in_ok-numbers.numbers.items) (λ first. IsWritten new.pages first c.in_ok-numbers.numbers.items c.args.rest.now) (λ first. Wrote old new first c.args.rest.now)
     (c.put_pages.ensures.put told)
     (λ first put. wrote old mid new first c.in_ok-numbers.numbers.items c.args.rest.now c.requires.some (c.in_ok-numbers.ensures.took t)
     (c.in_ok-numbers.ensures.count ∙ needed) (c.put_pages.ensures.others told) put c.put_pages.ensures.size c.put_pages.ensures.steady.used)

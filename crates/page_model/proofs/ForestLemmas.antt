@@ -15,7 +15,7 @@ use Rattle.page_model.specs.ForestSteps.{HasTreeThat, IsTreeLack, IsWholeWith, A
 use Rattle.page_model.specs.declared.whole.Lacks.{Lacks}
 use Rattle.page_model.specs.declared.whole.Lacks.TheVariants as lacks
 use Rattle.page_model.proofs.GatherLemmas.{depth_is}
-use Rattle.page_model.proofs.DifferentLemmas.{place_of}
+use Rattle.plain_pages.proofs.DifferentLemmas.{place_of}
 
 pub zip_push : {A B : Type 0} (R : A → B → Type 0) (xs : List A) (ys : List B) (x : A) (y : B) → AllZip R xs ys → R x y → AllZip R (xs ++ x ∷ []) (ys ++ y ∷ [])
 zip_push R [] [] x y all here = (here, tt)

@@ -1,11 +1,7 @@
-pub mod TimesLemmas
 pub mod StayLemmas
 pub mod GatherLemmas
 pub mod TreeRowLemmas
 pub mod HoldLemmas
-pub mod DifferentLemmas
-pub mod FreeLemmas
-pub mod WordLemmas
 pub mod OneTreeLemmas
 pub mod IntLemmas
 pub mod RiseLemmas
@@ -21,7 +17,6 @@ pub mod OthersLemmas
 pub mod ForestLemmas
 pub mod HeaderLemmas
 pub mod EnterLemmas
-pub mod CourseLemmas
 pub mod SearchLemmas
 pub mod RowLemmas
 pub mod KeptLemmas

@@ -9,7 +9,7 @@ use Rattle.page_list.specs.Freelist.{Trunk, AreTrunks, free_pages, first_trunk}
 use Rattle.page_model.specs.Tree.{Row, Tree, Leaf, Child, Right, pages_of, with_leaf}
 use Rattle.page_model.specs.Whole.{IsWholeTree, first_page, used_pages, named_pages}
 use Rattle.page_model.specs.Laws.{Keeps, chains_of, leaf_rows, NewChains, WholeReplaced}
-use Rattle.page_model.proofs.TimesLemmas.{times_append, among_left, among_right}
+use Rattle.page_list.proofs.ChainLemmas.{times-append, among-front, among-back}
 use Rattle.page_model.proofs.WholeLemmas.{whole_tree_stays, trees_stay, trunks_stay, flat_append}
 use Rattle.page_model.proofs.ReplaceLemmas.{whole_new, pages_change, leaf_named, chains_append}
 use Rattle.page_model.proofs.FrontLemmas.{header_kept, trunk_kept, count_kept}
@@ -21,18 +21,18 @@ others roots before behind trunks n = times n (first_page roots) + times n (flat
 split_named : (roots : List ℕ) (before behind : List Tree) (tree : Tree) (trunks : List Trunk) (n : ℕ)
     → times n (named_pages roots (before ++ tree ∷ behind) trunks) ≡ others roots before behind trunks n + times n (pages_of tree)
 split_named roots before behind tree trunks n =
-    let a = times_append n (used_pages roots (before ++ tree ∷ behind)) (free_pages trunks) in
-    let b = times_append n (first_page roots) (flat_map pages_of (before ++ tree ∷ behind)) in
+    let a = times-append n (used_pages roots (before ++ tree ∷ behind)) (free_pages trunks) in
+    let b = times-append n (first_page roots) (flat_map pages_of (before ++ tree ∷ behind)) in
     let c = ap (times n) (flat_append before (tree ∷ behind)) in
-    let d = times_append n (flat_map pages_of before) (flat_map pages_of (tree ∷ behind)) in
-    let e = times_append n (pages_of tree) (flat_map pages_of behind) in
+    let d = times-append n (flat_map pages_of before) (flat_map pages_of (tree ∷ behind)) in
+    let e = times-append n (pages_of tree) (flat_map pages_of behind) in
     omega (arith, a, b, c, d, e)
 
 -- the chains of a leaf are pages of its tree
 chains_named : (at n : ℕ) (tree : Tree) → times n (chains_of (leaf_rows at tree)) ≤ times n (pages_of tree)
 chains_named at n (Leaf page rows) = grind (arith, nat_tests)
 chains_named at n (Child child key more) =
-    omega (arith, chains_named at n child, chains_named at n more, chains_append n (leaf_rows at child) (leaf_rows at more), times_append n (pages_of child) (pages_of more))
+    omega (arith, chains_named at n child, chains_named at n more, chains_append n (leaf_rows at child) (leaf_rows at more), times-append n (pages_of child) (pages_of more))
 chains_named at n (Right page child) = omega (arith, chains_named at n child)
 
 -- a page that another part names is neither the leaf nor in the chains of its new rows
@@ -61,8 +61,8 @@ zip_replace old new kept [] [] behind tree tree' keeps one b h all = absurd all
 zip_replace old new kept (root ∷ roots) [] behind tree tree' keeps one b h all = (one root all.0, trees_stay old new kept roots behind keeps h all.1)
 zip_replace old new kept [] (t ∷ before) behind tree tree' keeps one b h all = absurd all
 zip_replace old new kept (root ∷ roots) (t ∷ before) behind tree tree' keeps one b h all = (
-  whole_tree_stays old new kept root t keeps (λ n some. b n (among_left n (pages_of t) _ some)) all.0,
-  zip_replace old new kept roots before behind tree tree' keeps one (λ n some. b n (among_right n (pages_of t) _ some)) h all.1,
+  whole_tree_stays old new kept root t keeps (λ n some. b n (among-front n (pages_of t) _ some)) all.0,
+  zip_replace old new kept roots before behind tree tree' keeps one (λ n some. b n (among-back n (pages_of t) _ some)) h all.1,
 )
 
 -- no page is named twice afterwards

@@ -9,7 +9,7 @@ use Rattle.page_model.specs.Tree.{Row, Tree, Leaf, Child, Right, root_of, rows_o
 use Rattle.page_model.specs.Held.{HasCells, HasRow, HoldsBehind}
 use Rattle.page_model.specs.Whole.{IsWholeTree, below_all, greatest}
 use Rattle.page_model.specs.Laws.{Keeps, chains_of, leaf_rows, pages_beside, MayHave, HasLeaf, ReplacesLeaf, RowsChange, LeafReplaced}
-use Rattle.page_model.proofs.TimesLemmas.{times_append, among_left, among_right, among_head, among_tail}
+use Rattle.page_list.proofs.ChainLemmas.{times-append, among-front, among-back, among-here, among-cons}
 use Rattle.page_model.proofs.StayLemmas.{cells_stay, tree_behind_stays}
 
 differs : (a b : ℕ) → nat_eq a b ≡ false → a ≢ b
@@ -51,13 +51,13 @@ holds_new old new at rows front (Leaf page was) kept keeps beside cells each hol
     subst P (sym (leaf_other page at rows was e)) (tree_behind_stays old new kept front (Leaf page was) keeps (subst Q (beside_there page at was e) beside) holds))
 holds_new old new at rows front (Child child key more) kept keeps beside cells each holds =
     let P : ℕ → Type 0 = λ root. HoldsBehind new (front ++ record { child = root; rowid = key } ∷ []) (with_leaf at rows more) in (
-      holds_new old new at rows [] child kept keeps (λ n some. beside n (among_left n (pages_beside at child) _ some)) cells each holds.0,
-      subst P (sym (same_root at rows child)) (holds_new old new at rows _ more kept keeps (λ n some. beside n (among_right n (pages_beside at child) _ some)) cells each holds.1),
+      holds_new old new at rows [] child kept keeps (λ n some. beside n (among-front n (pages_beside at child) _ some)) cells each holds.0,
+      subst P (sym (same_root at rows child)) (holds_new old new at rows _ more kept keeps (λ n some. beside n (among-back n (pages_beside at child) _ some)) cells each holds.1),
     )
 holds_new old new at rows front (Right page child) kept keeps beside cells each holds =
     let P : ℕ → Type 0 = λ root. HasCells new page (InteriorPage front root) in (
-      subst P (sym (same_root at rows child)) (cells_stay old new kept page _ keeps (beside page (among_head page _)) holds.0),
-      holds_new old new at rows [] child kept keeps (λ n some. beside n (among_tail n page _ some)) cells each holds.1,
+      subst P (sym (same_root at rows child)) (cells_stay old new kept page _ keeps (beside page (among-here page _)) holds.0),
+      holds_new old new at rows [] child kept keeps (λ n some. beside n (among-cons n page _ some)) cells each holds.1,
     )
 
 -- order, depth and fill
@@ -114,21 +114,21 @@ whole_new old new root tree at rows whole replaces = record {
 -- a tree without the leaf does not change
 pub not_named : (at : ℕ) (rows : List Row) (tree : Tree) → ¬ (Among (pages_of tree) at) → (with_leaf at rows tree ≡ tree) × (leaf_rows at tree ≡ [])
 not_named at rows (Leaf page old) none = by_page page at
-    (λ same e. let P : ℕ → Type 0 = λ n. Among (page ∷ chains_of old) n in absurd (none (subst P same (among_head page _))))
+    (λ same e. let P : ℕ → Type 0 = λ n. Among (page ∷ chains_of old) n in absurd (none (subst P same (among-here page _))))
     (λ other e. (leaf_other page at rows old e, ap (λ (t : Bool). if t then old else []) e))
 not_named at rows (Child child key more) none =
-    let a = not_named at rows child (λ some. none (among_left at (pages_of child) _ some)) in
-    let b = not_named at rows more (λ some. none (among_right at (pages_of child) _ some)) in
+    let a = not_named at rows child (λ some. none (among-front at (pages_of child) _ some)) in
+    let b = not_named at rows more (λ some. none (among-back at (pages_of child) _ some)) in
     (ap₂ (λ (c : Tree) (m : Tree). Child c key m) a.0 b.0, ap₂ (λ (x : List Row) (y : List Row). x ++ y) a.1 b.1)
 not_named at rows (Right page child) none =
-    let a = not_named at rows child (λ some. none (among_tail at page _ some)) in
+    let a = not_named at rows child (λ some. none (among-cons at page _ some)) in
     (ap (λ (t : Tree). Right page t) a.0, a.1)
 
 pub leaf_named : (at : ℕ) (tree : Tree) → HasLeaf at tree → Among (pages_of tree) at
-leaf_named at (Leaf page rows) has = let P : ℕ → Type 0 = λ n. Among (page ∷ chains_of rows) n in subst P has (among_head page _)
-leaf_named at (Child child key more) (inl has) = among_left at (pages_of child) _ (leaf_named at child has)
-leaf_named at (Child child key more) (inr has) = among_right at (pages_of child) _ (leaf_named at more has)
-leaf_named at (Right page child) has = among_tail at page _ (leaf_named at child has)
+leaf_named at (Leaf page rows) has = let P : ℕ → Type 0 = λ n. Among (page ∷ chains_of rows) n in subst P has (among-here page _)
+leaf_named at (Child child key more) (inl has) = among-front at (pages_of child) _ (leaf_named at child has)
+leaf_named at (Child child key more) (inr has) = among-back at (pages_of child) _ (leaf_named at more has)
+leaf_named at (Right page child) has = among-cons at page _ (leaf_named at child has)
 
 -- in which half of an interior page the leaf is
 pub record Halves (at : ℕ) (child more : Tree) : Type 0 where
@@ -139,10 +139,10 @@ pub record Halves (at : ℕ) (child more : Tree) : Type 0 where
 
 halves : (at : ℕ) (child more : Tree) → AllDifferent (pages_of child ++ pages_of more) → Halves at child more
 halves at child more different = record {
-  child_once = record { once = λ n. omega (arith, different.once n, times_append n (pages_of child) (pages_of more)) };
-  more_once = record { once = λ n. omega (arith, different.once n, times_append n (pages_of child) (pages_of more)) };
-  not_in_more = λ has some. omega (arith, some, leaf_named at child has, different.once at, times_append at (pages_of child) (pages_of more));
-  not_in_child = λ has some. omega (arith, some, leaf_named at more has, different.once at, times_append at (pages_of child) (pages_of more));
+  child_once = record { once = λ n. omega (arith, different.once n, times-append n (pages_of child) (pages_of more)) };
+  more_once = record { once = λ n. omega (arith, different.once n, times-append n (pages_of child) (pages_of more)) };
+  not_in_more = λ has some. omega (arith, some, leaf_named at child has, different.once at, times-append at (pages_of child) (pages_of more));
+  not_in_child = λ has some. omega (arith, some, leaf_named at more has, different.once at, times-append at (pages_of child) (pages_of more));
 }
 
 below_right : (page : ℕ) (child : Tree) → AllDifferent (page ∷ pages_of child) → AllDifferent (pages_of child)
@@ -186,7 +186,7 @@ rows_change at rows (Right page child) different has =
 
 pub chains_append : (n : ℕ) (xs ys : List Row) → times n (chains_of (xs ++ ys)) ≡ times n (chains_of xs) + times n (chains_of ys)
 chains_append n [] ys = omega arith
-chains_append n (x ∷ xs) ys = omega (arith, chains_append n xs ys, times_append n x.chain (chains_of xs), times_append n x.chain (chains_of (xs ++ ys)))
+chains_append n (x ∷ xs) ys = omega (arith, chains_append n xs ys, times-append n x.chain (chains_of xs), times-append n x.chain (chains_of (xs ++ ys)))
 
 pub pages_change : (at : ℕ) (rows : List Row) (tree : Tree) → AllDifferent (pages_of tree) → HasLeaf at tree → (n : ℕ) →
     times n (pages_of (with_leaf at rows tree)) + times n (chains_of (leaf_rows at tree)) ≡ times n (pages_of tree) + times n (chains_of rows)
@@ -201,9 +201,9 @@ pages_change at rows (Child child key more) different (inl has) n =
     let half = halves at child more different in
     let inner = pages_change at rows child half.child_once has n in
     let rest = not_named at rows more (half.not_in_more has) in
-    let a = times_append n (pages_of (with_leaf at rows child)) (pages_of (with_leaf at rows more)) in
+    let a = times-append n (pages_of (with_leaf at rows child)) (pages_of (with_leaf at rows more)) in
     let b = chains_append n (leaf_rows at child) (leaf_rows at more) in
-    let c = times_append n (pages_of child) (pages_of more) in
+    let c = times-append n (pages_of child) (pages_of more) in
     let d = ap (λ (t : Tree). times n (pages_of t)) rest.0 in
     let e = ap (λ (l : List Row). times n (chains_of l)) rest.1 in
     omega (arith, inner, a, b, c, d, e)
@@ -211,9 +211,9 @@ pages_change at rows (Child child key more) different (inr has) n =
     let half = halves at child more different in
     let inner = pages_change at rows more half.more_once has n in
     let rest = not_named at rows child (half.not_in_child has) in
-    let a = times_append n (pages_of (with_leaf at rows child)) (pages_of (with_leaf at rows more)) in
+    let a = times-append n (pages_of (with_leaf at rows child)) (pages_of (with_leaf at rows more)) in
     let b = chains_append n (leaf_rows at child) (leaf_rows at more) in
-    let c = times_append n (pages_of child) (pages_of more) in
+    let c = times-append n (pages_of child) (pages_of more) in
     let d = ap (λ (t : Tree). times n (pages_of t)) rest.0 in
     let e = ap (λ (l : List Row). times n (chains_of l)) rest.1 in
     omega (arith, inner, a, b, c, d, e)

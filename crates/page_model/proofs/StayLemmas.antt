@@ -9,7 +9,7 @@ use Rattle.tree_page.specs.declared.cell.PageCells.{PageCells}
 use Rattle.page_model.specs.Tree.{Row, Tree, Leaf, Child, Right, pages_of}
 use Rattle.page_model.specs.Held.{HasCells, HasRow, HoldsBehind}
 use Rattle.page_model.specs.Laws.{Keeps, TreeStays}
-use Rattle.page_model.proofs.TimesLemmas.{among_left, among_right, among_head, among_tail}
+use Rattle.page_list.proofs.ChainLemmas.{among-front, among-back, among-here, among-cons}
 
 pub cells_stay : (old new : Pages) (kept : ℕ → Type 0) (page : ℕ) (cells : PageCells) → Keeps old new kept → kept page → HasCells old page cells → HasCells new page cells
 cells_stay old new kept page cells keeps is_kept has =
@@ -30,7 +30,7 @@ linked_stays : (old new : Pages) (kept : ℕ → Type 0) → Keeps old new kept 
 linked_stays old new kept keeps first [] next among linked = linked
 linked_stays old new kept keeps first (n ∷ more) next among linked =
     let P : ℕ → Type 0 = λ then. AreLinked new then more next in
-    (linked.0, subst P (sym (next_stays old new n (keeps.same n (among n (among_head n more))))) (linked_stays old new kept keeps (next_page old n) more next (λ m some. among m (among_tail m n more some)) linked.1))
+    (linked.0, subst P (sym (next_stays old new n (keeps.same n (among n (among-here n more))))) (linked_stays old new kept keeps (next_page old n) more next (λ m some. among m (among-cons m n more some)) linked.1))
 
 piece_stays : (old new : Pages) (kept : ℕ → Type 0) (page : ℕ) → Keeps old new kept → kept page → piece new page ≡ piece old page
 piece_stays old new kept page keeps is_kept =
@@ -40,8 +40,8 @@ pieces_stay : (old new : Pages) (kept : ℕ → Type 0) → Keeps old new kept �
     → flat_map (piece new) numbers ≡ flat_map (piece old) numbers
 pieces_stay old new kept keeps [] among = refl
 pieces_stay old new kept keeps (n ∷ more) among =
-    ap (λ (bytes : List ℕ). bytes ++ flat_map (piece new) more) (piece_stays old new kept n keeps (among n (among_head n more)))
-    ∙ ap (λ (bytes : List ℕ). piece old n ++ bytes) (pieces_stay old new kept keeps more (λ m some. among m (among_tail m n more some)))
+    ap (λ (bytes : List ℕ). bytes ++ flat_map (piece new) more) (piece_stays old new kept n keeps (among n (among-here n more)))
+    ∙ ap (λ (bytes : List ℕ). piece old n ++ bytes) (pieces_stay old new kept keeps more (λ m some. among m (among-cons m n more some)))
 
 pub chain_stays : (old new : Pages) (kept : ℕ → Type 0) (first : ℕ) (numbers payload : List ℕ) → Keeps old new kept → ((n : ℕ) → Among numbers n → kept n)
     → IsChain old first numbers payload → IsChain new first numbers payload
@@ -67,24 +67,24 @@ pub rows_stay : (old new : Pages) (kept : ℕ → Type 0) (rows : List Row) → 
     → AllByRecursion (HasRow old) rows → AllByRecursion (HasRow new) rows
 rows_stay old new kept [] keeps among has = has
 rows_stay old new kept (row ∷ more) keeps among has = (
-  row_stays old new kept row keeps (λ n some. among n (among_left n row.chain _ some)) has.0,
-  rows_stay old new kept more keeps (λ n some. among n (among_right n row.chain _ some)) has.1,
+  row_stays old new kept row keeps (λ n some. among n (among-front n row.chain _ some)) has.0,
+  rows_stay old new kept more keeps (λ n some. among n (among-back n row.chain _ some)) has.1,
 )
 
 pub tree_behind_stays : (old new : Pages) (kept : ℕ → Type 0) (front : List InnerCell) (tree : Tree) → Keeps old new kept → ((n : ℕ) → Among (pages_of tree) n → kept n)
     → HoldsBehind old front tree → HoldsBehind new front tree
 tree_behind_stays old new kept front (Leaf page rows) keeps among holds = (
   holds.0,
-  cells_stay old new kept page _ keeps (among page (among_head page _)) holds.1,
-  rows_stay old new kept rows keeps (λ n some. among n (among_tail n page _ some)) holds.2,
+  cells_stay old new kept page _ keeps (among page (among-here page _)) holds.1,
+  rows_stay old new kept rows keeps (λ n some. among n (among-cons n page _ some)) holds.2,
 )
 tree_behind_stays old new kept front (Child child key more) keeps among holds = (
-  tree_behind_stays old new kept [] child keeps (λ n some. among n (among_left n (pages_of child) _ some)) holds.0,
-  tree_behind_stays old new kept _ more keeps (λ n some. among n (among_right n (pages_of child) _ some)) holds.1,
+  tree_behind_stays old new kept [] child keeps (λ n some. among n (among-front n (pages_of child) _ some)) holds.0,
+  tree_behind_stays old new kept _ more keeps (λ n some. among n (among-back n (pages_of child) _ some)) holds.1,
 )
 tree_behind_stays old new kept front (Right page child) keeps among holds = (
-  cells_stay old new kept page _ keeps (among page (among_head page _)) holds.0,
-  tree_behind_stays old new kept [] child keeps (λ n some. among n (among_tail n page _ some)) holds.1,
+  cells_stay old new kept page _ keeps (among page (among-here page _)) holds.0,
+  tree_behind_stays old new kept [] child keeps (λ n some. among n (among-cons n page _ some)) holds.1,
 )
 
 pub tree_stays : TreeStays

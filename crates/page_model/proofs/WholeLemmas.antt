@@ -11,19 +11,19 @@ use Rattle.page_model.specs.Tree.{Tree, Leaf, Child, Right, root_of, pages_of}
 use Rattle.page_model.specs.Held.{HasCells}
 use Rattle.page_model.specs.Whole.{IsWholeTree, HasHeader, unsized_header, first_page, used_pages, named_pages}
 use Rattle.page_model.specs.Laws.{Keeps, Admits, WholeStays, RootAdded}
-use Rattle.page_model.proofs.TimesLemmas.{times_append, among_left, among_right, among_head}
+use Rattle.page_list.proofs.ChainLemmas.{times-append, among-front, among-back, among-here}
 use Rattle.page_model.proofs.StayLemmas.{tree_behind_stays}
 use Rattle.page_model.proofs.SizeLemmas.{longer_accepted, no_size}
 
 -- a tree names its root
 pub root_named : (tree : Tree) → Among (pages_of tree) (root_of tree)
-root_named (Leaf page rows) = among_head page _
-root_named (Child child key more) = among_right (root_of more) (pages_of child) (pages_of more) (root_named more)
-root_named (Right page child) = among_head page _
+root_named (Leaf page rows) = among-here page _
+root_named (Child child key more) = among-back (root_of more) (pages_of child) (pages_of more) (root_named more)
+root_named (Right page child) = among-here page _
 
 -- the pages of a tree of the roots are named, and so is page 1
 first_here : (roots : List ℕ) → times 1 roots ≡ 0 → Among (first_page roots) 1
-first_here roots none = let P : ℕ → Type 0 = λ n. Among (if nat_eq n 0 then 1 ∷ [] else []) 1 in subst P (sym none) (among_head 1 [])
+first_here roots none = let P : ℕ → Type 0 = λ n. Among (if nat_eq n 0 then 1 ∷ [] else []) 1 in subst P (sym none) (among-here 1 [])
 
 root_among : (pages : Pages) (root : ℕ) (roots : List ℕ) (trees : List Tree) → AllZip (IsWholeTree pages) roots trees → Among roots root → Among (flat_map pages_of trees) root
 root_among pages root [] [] whole some = absurd (omega (arith, some))
@@ -31,18 +31,18 @@ root_among pages root [] (tree ∷ trees) whole some = absurd whole
 root_among pages root (r ∷ roots) [] whole some = absurd whole
 root_among pages root (r ∷ roots) (tree ∷ trees) whole some = elim (cases_order r root) [
   | inl same ↦ let P : ℕ → Type 0 = λ n. Among (pages_of tree) n in
-      among_left root (pages_of tree) (flat_map pages_of trees) (subst P (whole.0.rooted ∙ same) (root_named tree))
-  | inr (inl less) ↦ among_right root (pages_of tree) _ (root_among pages root roots trees whole.1 (later root r roots some (λ e. omega (arith, less, e))))
-  | inr (inr more) ↦ among_right root (pages_of tree) _ (root_among pages root roots trees whole.1 (later root r roots some (λ e. omega (arith, more, e))))
+      among-front root (pages_of tree) (flat_map pages_of trees) (subst P (whole.0.rooted ∙ same) (root_named tree))
+  | inr (inl less) ↦ among-back root (pages_of tree) _ (root_among pages root roots trees whole.1 (later root r roots some (λ e. omega (arith, less, e))))
+  | inr (inr more) ↦ among-back root (pages_of tree) _ (root_among pages root roots trees whole.1 (later root r roots some (λ e. omega (arith, more, e))))
 ]
   where
     later : (n x : ℕ) (xs : List ℕ) → Among (x ∷ xs) n → x ≢ n → Among xs n
     later n x xs some other = grind (arith, nat_tests, some, other)
 
 pub one_named : (pages : Pages) (roots : List ℕ) (trees : List Tree) (trunks : List Trunk) → AllZip (IsWholeTree pages) roots trees → Among (named_pages roots trees trunks) 1
-one_named pages roots trees trunks whole = among_left 1 (used_pages roots trees) (free_pages trunks) (elim (cases_lt 0 (times 1 roots)) [
-  | inl some ↦ among_right 1 (first_page roots) (flat_map pages_of trees) (root_among pages 1 roots trees whole (omega (arith, some)))
-  | inr none ↦ among_left 1 (first_page roots) (flat_map pages_of trees) (first_here roots (omega (arith, none)))
+one_named pages roots trees trunks whole = among-front 1 (used_pages roots trees) (free_pages trunks) (elim (cases_lt 0 (times 1 roots)) [
+  | inl some ↦ among-back 1 (first_page roots) (flat_map pages_of trees) (root_among pages 1 roots trees whole (omega (arith, some)))
+  | inr none ↦ among-front 1 (first_page roots) (flat_map pages_of trees) (first_here roots (omega (arith, none)))
 ])
 
 -- the header
@@ -77,8 +77,8 @@ trees_stay old new kept [] [] keeps among whole = tt
 trees_stay old new kept [] (tree ∷ trees) keeps among whole = whole
 trees_stay old new kept (root ∷ roots) [] keeps among whole = whole
 trees_stay old new kept (root ∷ roots) (tree ∷ trees) keeps among whole = (
-  whole_tree_stays old new kept root tree keeps (λ n some. among n (among_left n (pages_of tree) _ some)) whole.0,
-  trees_stay old new kept roots trees keeps (λ n some. among n (among_right n (pages_of tree) _ some)) whole.1,
+  whole_tree_stays old new kept root tree keeps (λ n some. among n (among-front n (pages_of tree) _ some)) whole.0,
+  trees_stay old new kept roots trees keeps (λ n some. among n (among-back n (pages_of tree) _ some)) whole.1,
 )
 
 -- the freelist
@@ -95,11 +95,11 @@ trunk_stays old new trunk used same is = record {
 pub trunks_stay : (old new : Pages) (kept : ℕ → Type 0) (next : ℕ) (trunks : List Trunk) → Keeps old new kept → ((n : ℕ) → Among (free_pages trunks) n → kept n) → AreTrunks old next trunks → AreTrunks new next trunks
 trunks_stay old new kept next [] keeps among are = are
 trunks_stay old new kept next (trunk ∷ more) keeps among are =
-    let same = keeps.same trunk.number (among trunk.number (among_left trunk.number (trunk.number ∷ trunk.leaves) (free_pages more) (among_head trunk.number trunk.leaves))) in
+    let same = keeps.same trunk.number (among trunk.number (among-front trunk.number (trunk.number ∷ trunk.leaves) (free_pages more) (among-here trunk.number trunk.leaves))) in
     let P : ℕ → Type 0 = λ n. AreTrunks new n more in (
       are.0,
       trunk_stays old new trunk keeps.used same are.1,
-      subst P (sym (word_stays old new trunk.number 0 same)) (trunks_stay old new kept (next_trunk old trunk.number) more keeps (λ n some. among n (among_right n (trunk.number ∷ trunk.leaves) (free_pages more) some)) are.2),
+      subst P (sym (word_stays old new trunk.number 0 same)) (trunks_stay old new kept (next_trunk old trunk.number) more keeps (λ n some. among n (among-back n (trunk.number ∷ trunk.leaves) (free_pages more) some)) are.2),
     )
 
 pub freelist_stays : (old new : Pages) (kept : ℕ → Type 0) (trunks : List Trunk) → Keeps old new kept → kept 1 → ((n : ℕ) → Among (free_pages trunks) n → kept n) → IsFreelist old trunks → IsFreelist new trunks
@@ -115,11 +115,11 @@ pub whole_stays : WholeStays
 whole_stays old new roots trees trunks whole keeps admits =
     let named : ℕ → Type 0 = Among (named_pages roots trees trunks) in
     let one = one_named old roots trees trunks whole.each_tree in
-    let used : (n : ℕ) → Among (used_pages roots trees) n → named n = λ n some. among_left n (used_pages roots trees) (free_pages trunks) some in
-    let free : (n : ℕ) → Among (free_pages trunks) n → named n = λ n some. among_right n (used_pages roots trees) (free_pages trunks) some in
+    let used : (n : ℕ) → Among (used_pages roots trees) n → named n = λ n some. among-front n (used_pages roots trees) (free_pages trunks) some in
+    let free : (n : ℕ) → Among (free_pages trunks) n → named n = λ n some. among-back n (used_pages roots trees) (free_pages trunks) some in
     record {
       header = header_stays old new named keeps one admits whole.header;
-      each_tree = trees_stay old new named roots trees keeps (λ n some. used n (among_right n (first_page roots) (flat_map pages_of trees) some)) whole.each_tree;
+      each_tree = trees_stay old new named roots trees keeps (λ n some. used n (among-back n (first_page roots) (flat_map pages_of trees) some)) whole.each_tree;
       freelist = freelist_stays old new named trunks keeps one free whole.freelist;
       good_free = λ n some. (keeps.same n (free n some)).mark_stays ∙ whole.good_free n some;
       counted = word_stays old new 1 36 (keeps.same 1 one) ∙ whole.counted;
@@ -156,7 +156,7 @@ flat_append [] ys = refl
 flat_append (x ∷ xs) ys = ap (λ (l : List ℕ). pages_of x ++ l) (flat_append xs ys) ∙ sym (append_assoc (pages_of x) (flat_map pages_of xs) (flat_map pages_of ys))
 
 first_same : (roots : List ℕ) (page : ℕ) → page ≢ 1 → first_page (roots ++ page ∷ []) ≡ first_page roots
-first_same roots page other = ap (λ n. if nat_eq n 0 then 1 ∷ [] else []) (times_append 1 roots (page ∷ []) ∙ no_more (times 1 roots) page other)
+first_same roots page other = ap (λ n. if nat_eq n 0 then 1 ∷ [] else []) (times-append 1 roots (page ∷ []) ∙ no_more (times 1 roots) page other)
   where
     no_more : (n page : ℕ) → page ≢ 1 → n + times 1 (page ∷ []) ≡ n
     no_more n page other = grind (arith, nat_tests, other)
@@ -165,12 +165,12 @@ first_same roots page other = ap (λ n. if nat_eq n 0 then 1 ∷ [] else []) (ti
 named_more : (roots : List ℕ) (trees : List Tree) (trunks : List Trunk) (page n : ℕ) → page ≢ 1
     → times n (named_pages (roots ++ page ∷ []) (trees ++ Leaf page [] ∷ []) trunks) ≡ times n (named_pages roots trees trunks) + times n (page ∷ [])
 named_more roots trees trunks page n other =
-    let a = times_append n (used_pages (roots ++ page ∷ []) (trees ++ Leaf page [] ∷ [])) (free_pages trunks) in
-    let b = times_append n (first_page (roots ++ page ∷ [])) (flat_map pages_of (trees ++ Leaf page [] ∷ [])) in
-    let c = ap (times n) (flat_append trees (Leaf page [] ∷ [])) ∙ times_append n (flat_map pages_of trees) (page ∷ []) in
+    let a = times-append n (used_pages (roots ++ page ∷ []) (trees ++ Leaf page [] ∷ [])) (free_pages trunks) in
+    let b = times-append n (first_page (roots ++ page ∷ [])) (flat_map pages_of (trees ++ Leaf page [] ∷ [])) in
+    let c = ap (times n) (flat_append trees (Leaf page [] ∷ [])) ∙ times-append n (flat_map pages_of trees) (page ∷ []) in
     let d = ap (times n) (first_same roots page other) in
-    let e = times_append n (used_pages roots trees) (free_pages trunks) in
-    let f = times_append n (first_page roots) (flat_map pages_of trees) in
+    let e = times-append n (used_pages roots trees) (free_pages trunks) in
+    let f = times-append n (first_page roots) (flat_map pages_of trees) in
     omega (arith, a, b, c, d, e, f)
 
 pub root_added : RootAdded

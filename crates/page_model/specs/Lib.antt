@@ -4,11 +4,9 @@ pub mod Whole
 pub mod Database
 pub mod Need
 pub mod Walk
-pub mod Listed
-pub mod Plain
+pub mod Entered
 pub mod Gathered
 pub mod GatherSteps
-pub mod FreeSteps
 pub mod Forest
 pub mod ForestSteps
 pub mod Steps

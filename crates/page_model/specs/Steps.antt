@@ -1,35 +1,12 @@
--- Words that only the private steps of the plain program use: how far a walk along a chain has come, and what a step
--- finds.
-use Rattle.std.specs.Prelude.{◌≡◌, ◌⊎◌, ℕ, ◌-◌, ◌*◌, ◌≤◌, ◌<◌, ℤ, ◌≤ℤ◌, ◌<ℤ◌, List, [], ◌++◌, length, Option, None, Some, Result, Ok, Err, ⊤}
-use Rattle.std.specs.List.{flat_map}
-use Rattle.page_list.specs.Pages.{Pages, HasPage, IsGood, Among}
-use Rattle.page_list.specs.Chain.{pages_needed, piece, HasWalked, holder}
+-- Words that only the private steps of the plain program use: the payload of a row, and how far a search or a walk over
+-- rows has come.
+use Rattle.std.specs.Prelude.{◌≡◌, ◌⊎◌, ℕ, ◌≤◌, ℤ, ◌≤ℤ◌, ◌<ℤ◌, List, [], ◌++◌, length, Option, None, Some, Result, Ok, Err, ⊤}
+use Rattle.page_list.specs.Pages.{Pages, HasPage}
 use Rattle.tree_page.specs.declared.cell.LeafCell.{LeafCell}
 use Rattle.page_model.specs.Whole.{below_all, most_depth}
 use Rattle.page_model.specs.Walk.{Fault, Broken, IsReadable, IsUnreadable, PathEnd, LeadsTo, Next, Found, Nothing, Meets, Seeks, FirstOf, WalkEnd, IsLast, WalksFrom, Walk}
 use Rattle.page_model.specs.declared.walk.Step.{Step}
 use Rattle.page_model.specs.declared.walk.Step.TheVariants as steps
-use Rattle.page_model.specs.declared.chain.ChainEnd.{ChainEnd}
-use Rattle.page_model.specs.Plain.{ChainEnds}
-
--- a walk has come over these pages, which hold these bytes; `last` holds the number behind them
-pub record IsCourse (pages : Pages) (first : ℕ) (numbers : List ℕ) (last next : ℕ) (payload : List ℕ) : Type 0 where
-  pub walked : HasWalked pages first numbers next
-  pub held : last ≡ holder first numbers
-  pub holds : payload ≡ flat_map (piece pages) numbers
-  pub long : length payload ≡ length numbers * (pages.usable - 4)
-
--- every walk that has come over these pages and needs more ends like this
-abbrev pub StopsAll : Pages → List ℕ → ℕ → ℕ → ChainEnd → Type 0
-StopsAll pages numbers last next end =
-    (first len : ℕ) → HasWalked pages first numbers next → last ≡ holder first numbers → length numbers < pages_needed pages.usable len
-    → ChainEnds pages first len end
-
--- the walk may go on to a page
-pub record GoesOn (pages : Pages) (numbers : List ℕ) (next : ℕ) : Type 0 where
-  pub there : HasPage pages next
-  pub good : IsGood pages next
-  pub new : ¬ (Among numbers next)
 
 -- a cell keeps no more than the payload
 abbrev pub IsKept : LeafCell → Type 0

@@ -3,12 +3,12 @@
 ghost use Rattle.std.specs.Prelude.{◌≡◌, ◌↔◌, ◌+◌, ◌≤◌, ◌<◌, length, take, slice_index, IsTrue};
 ghost use Rattle.db_format.specs.Header.{page_of, number_at};
 ghost use Rattle.page_model.specs.Whole.{HasHeader};
-ghost use Rattle.page_model.specs.Plain.{pages_of};
+ghost use Rattle.plain_pages.specs.Plain.{pages_of};
 ghost use Rattle.page_model.specs.ForestSteps.{without_size};
 
-use crate::pages::PlainPages;
 use byteorder::{BigEndian, ByteOrder};
 use db_format::{header_in_front, read_header};
+use plain_pages::PlainPages;
 
 /// Whether page 1 is there, is good, and begins with a header that is read without refusal and says the usable size.
 pub(crate) fn has_header(pages: &PlainPages) -> bool

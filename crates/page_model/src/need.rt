@@ -5,18 +5,15 @@ ghost use Rattle.std.specs.List.{flat_map};
 ghost use Rattle.page_model.specs.Tree.{pages_of as tree_pages};
 ghost use Rattle.page_model.specs.Whole.{named_pages};
 ghost use Rattle.page_model.specs.Need.{need, use_of, chain_pages, need_of_rows, need_of_trees};
-ghost use Rattle.page_model.specs.Plain.{pages_of};
+ghost use Rattle.plain_pages.specs.Plain.{pages_of};
 ghost use Rattle.page_model.specs.Forest.{HasForest, HasFreelist, LacksTree, HasNoFreelist};
 
-use crate::chain::needed;
-use crate::different::times;
-use crate::freelist::freelist_of;
-use crate::pages::PlainPages;
 use crate::path::MOST_DEPTH;
 use crate::tree::tree_at;
 use crate::tree_rows::PlainRow;
 use crate::whole::{all_of, pages_of_trunks};
 use db_format::local_size;
+use plain_pages::{PlainPages, freelist_of, needed, times};
 use std::alloc::{AllocError, Global};
 
 /// The pages that these roots name, with those of the freelist: page 1 first where it is no root, then tree by tree.

@@ -3,12 +3,13 @@
 ghost use Rattle.std.specs.Prelude.{◌≡◌, ◌≤◌, ◌<◌, length, IfOk, option_copied};
 ghost use Rattle.std.specs.List.{AllByRecursion};
 ghost use Rattle.page_model.specs.Walk.{Path, AtKey, first_from, child_for};
-ghost use Rattle.page_model.specs.Plain.{pages_of};
+ghost use Rattle.plain_pages.specs.Plain.{pages_of};
 ghost use Rattle.page_model.specs.Steps.{IsKept, Leads};
 
 use crate::ends::PathEnd;
-use crate::pages::PlainPages;
+use crate::enter::cells_at;
 use crate::row::payload_of;
+use plain_pages::PlainPages;
 use std::alloc::{AllocError, Global};
 use tree_page::{InnerCell, LeafCell, PageCells};
 
@@ -41,7 +42,7 @@ fn leads_to(
 ) -> Result<PathEnd, AllocError>
     ensures { IfOk result (λ end. Leads left columns (pages_of pages.now) above page key end) }
 {
-    match pages.cells_at(alloc, left, above, page)? {
+    match cells_at(alloc, pages, left, above, page)? {
         Ok(PageCells::Leaf(cells)) => at_key(alloc, pages, page, key, cells.as_slice(), columns),
         Ok(PageCells::Interior { cells, right }) => {
             let child = child_for(key, cells.as_slice(), right);

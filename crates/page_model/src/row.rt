@@ -3,13 +3,12 @@
 ghost use Rattle.std.specs.Prelude.{◌≡◌, ◌≤◌, ◌++◌, ◌↔◌, length, IfOk, IsTrue};
 ghost use Rattle.page_model.specs.Walk.{Accepts};
 ghost use Rattle.page_model.specs.Database.{IsRecordOf};
-ghost use Rattle.page_model.specs.Plain.{pages_of};
+ghost use Rattle.plain_pages.specs.Plain.{pages_of};
 ghost use Rattle.page_model.specs.Steps.{IsKept, IsNamed, IsRead};
 
-use crate::chain::{ChainEnd, chain_of};
 use crate::ends::Fault;
-use crate::pages::PlainPages;
 use db_format::{Bytes, FormatFault, one_record, read_record};
+use plain_pages::{ChainEnd, PlainPages, chain_of};
 use std::alloc::{AllocError, Global};
 use tree_page::LeafCell;
 

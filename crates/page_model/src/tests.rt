@@ -1,8 +1,6 @@
-//! Paths, walks and chains over small spaces whose pages are spelled out here, byte by byte.
+//! Paths and walks over small spaces whose pages are spelled out here, byte by byte.
 
-use crate::{
-    ChainEnd, Fault, PathEnd, PlainPage, PlainPages, WalkEnd, Walked, chain_of, path_of, walk_of,
-};
+use crate::{Fault, PathEnd, PlainPage, PlainPages, WalkEnd, Walked, path_of, walk_of};
 use db_format::Bytes;
 use std::alloc::{AllocError, Global};
 use std::test::Fail;
@@ -435,86 +433,5 @@ fn payloads_that_are_no_records(rt: HostRuntime) -> Result<(), Fail> {
     let walked = walk_of(rt.alloc(), &pages, 2, 0, 9, Some(1))?;
     assert!(rt; walked.end == WalkEnd::StopsAt(Fault::Broken(2)));
     assert!(rt; walked.rows.as_slice().iter().map(|row| row.0).eq([1]));
-    Ok(())
-}
-
-#[test]
-fn chains_end_in_one_way(rt: HostRuntime) -> Result<(), Fail> {
-    let pages = space(rt.alloc(), &[SPILLS, TO_FOUR, LAST], &[])?;
-    let whole: [(u32, u64, &[u32]); 5] = [
-        (0, 0, &[]),
-        (4, 1, &[4]),
-        (4, 508, &[4]),
-        (3, 509, &[3, 4]),
-        (3, 1016, &[3, 4]),
-    ];
-    for (first, len, wanted) in whole {
-        let end = chain_of(rt.alloc(), &pages, first, len)?;
-        assert!(rt;
-            matches!(&end, ChainEnd::Whole { numbers, payload } if numbers.as_slice() == wanted && payload.as_slice().len() as u64 == len),
-            "{len}"
-        );
-    }
-    let breaks = [
-        (3, 0, 3),
-        (0, 1, 0),
-        (3, 508, 3),
-        (3, 1017, 4),
-        (3, u64::MAX, 4),
-        (5, 1, 5),
-    ];
-    for (first, len, wanted) in breaks {
-        let end = chain_of(rt.alloc(), &pages, first, len)?;
-        assert!(rt;
-            matches!(&end, ChainEnd::Breaks { page } if *page == wanted),
-            "{len}"
-        );
-    }
-    let pages = space(rt.alloc(), &[SPILLS, TO_FOUR, LAST], &[4])?;
-    let end = chain_of(rt.alloc(), &pages, 3, 600)?;
-    assert!(rt;
-        matches!(
-            end,
-            ChainEnd::Fails {
-                page: 4,
-                sums: (7, 8)
-            }
-        )
-    );
-    Ok(())
-}
-
-#[test]
-fn sizes_that_pages_may_have(rt: HostRuntime) -> Result<(), Fail> {
-    let cases = [
-        (479, 512, false),
-        (480, 480, true),
-        (480, 479, false),
-        (512, 511, false),
-        (512, 65536, true),
-        (512, 65537, false),
-        (65536, 65536, true),
-        (65537, 65537, false),
-    ];
-    for (usable, size, wanted) in cases {
-        let mut pages = Vec::new(rt.alloc());
-        pages.push(PlainPage {
-            bytes: Bytes::from_vec(vec![in rt.alloc(); 0; size]?),
-            bad: None,
-        })?;
-        let made = PlainPages::new(usable, pages);
-        assert!(rt; made.is_some() == wanted, "{usable} of {size}");
-    }
-    let pages = space(rt.alloc(), &[ODD_ROWS], &[2])?;
-    assert!(rt; pages.size() == 2 && pages.usable() == 512);
-    assert!(rt; pages.bytes_of(0).is_none() && pages.bytes_of(3).is_none());
-    assert!(rt;
-        pages
-            .bytes_of(2)
-            .is_some_and(|bytes| bytes.len() == 512 && bytes.first() == Some(&13))
-    );
-    assert!(rt;
-        pages.mark_of(1).is_none() && pages.mark_of(2) == Some((7, 8)) && pages.mark_of(3).is_none()
-    );
     Ok(())
 }

@@ -5,14 +5,15 @@ ghost use Rattle.std.specs.Int.{w64};
 ghost use Rattle.tree_page.specs.declared.cell.PageCells.{PageCells};
 ghost use Rattle.page_model.specs.Held.{HasCells};
 ghost use Rattle.page_model.specs.Whole.{most_depth};
-ghost use Rattle.page_model.specs.Plain.{pages_of};
+ghost use Rattle.plain_pages.specs.Plain.{pages_of};
 ghost use Rattle.page_model.specs.Gathered.{HasTree, HasNoTree, HasRows};
 ghost use Rattle.page_model.specs.GatherSteps.{low_of, last_key, Gathers};
 
+use crate::enter::cells_at;
 use crate::gather::{Summary, above, beside, leaf};
-use crate::pages::PlainPages;
 use crate::path::MOST_DEPTH;
 use crate::tree_rows::{PlainRow, rows_of_cells};
+use plain_pages::PlainPages;
 use std::alloc::{AllocError, Global};
 use tree_page::{InnerCell, LeafCell, PageCells, one_page};
 
@@ -49,7 +50,7 @@ pub(crate) fn tree_at(
     if levels == 0 {
         return Ok(None);
     }
-    match cells_at(alloc, pages, page)? {
+    match cells_of(alloc, pages, page)? {
         None => Ok(None),
         Some(PageCells::Leaf(cells)) => { leaf_at(alloc, pages, page, cells.as_slice(), low, high) }
         Some(PageCells::Interior { cells, right }) => interior_at(
@@ -145,15 +146,11 @@ fn key_of(cell: &InnerCell) -> i64
 }
 
 /// The cells of a b-tree page; `None` where the page is not there, fails its checksum or is no such page.
-pub(crate) fn cells_at(
-    alloc: Global,
-    pages: &PlainPages,
-    page: u32,
-) -> Result<Option<PageCells>, AllocError>
+fn cells_of(alloc: Global, pages: &PlainPages, page: u32) -> Result<Option<PageCells>, AllocError>
     ensures found { IfOk result (λ found. IfSome found (HasCells (pages_of pages.now) page)) }
     ensures none { IfOk result (λ found. IfNone found ((cells : PageCells) → ¬ (HasCells (pages_of pages.now) page cells))) }
 {
-    match pages.cells_at(alloc, 1, page, page)? {
+    match cells_at(alloc, pages, 1, page, page)? {
         Ok(cells) => Ok(Some(cells)),
         Err(_) => Ok(None),
     }

@@ -3,14 +3,12 @@
 ghost use Rattle.std.specs.Prelude.{◌≡◌, ◌++◌, List, IfOk, IfSome, IfNone};
 ghost use Rattle.page_model.specs.Tree.{Row, rowid};
 ghost use Rattle.page_model.specs.Held.{HasRow};
-ghost use Rattle.page_model.specs.Plain.{pages_of};
+ghost use Rattle.plain_pages.specs.Plain.{pages_of};
 ghost use Rattle.page_model.specs.GatherSteps.{AreRowsOf};
 
-use crate::chain::{ChainEnd, chain_of};
-use crate::numbers::PageNumbers;
-use crate::pages::PlainPages;
 use db_format::Bytes;
 use page_list::one_chain;
+use plain_pages::{ChainEnd, PageNumbers, PlainPages, chain_of};
 use std::alloc::{AllocError, Global};
 use std::marker::Model;
 use tree_page::LeafCell;

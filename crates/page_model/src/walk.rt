@@ -2,16 +2,16 @@
 
 ghost use Rattle.std.specs.Prelude.{◌≡◌, ℕ, int_le, IfOk, option_copied};
 ghost use Rattle.page_model.specs.Walk.{Walk, in_leaf, all_children, children_from};
-ghost use Rattle.page_model.specs.Plain.{pages_of};
+ghost use Rattle.plain_pages.specs.Plain.{pages_of};
 ghost use Rattle.page_model.specs.Steps.{from_of, HasSought, HasFirst, IsStep};
 
 use crate::ends::{Next, WalkEnd};
-use crate::numbers::PageNumbers;
-use crate::pages::PlainPages;
+use crate::enter::cells_at;
 use crate::path::{MOST_DEPTH, first_from};
 use crate::row::payload_of;
 use crate::rows::Rows;
 use db_format::Bytes;
+use plain_pages::{PageNumbers, PlainPages};
 use std::alloc::{AllocError, Global};
 use tree_page::{InnerCell, LeafCell, PageCells};
 
@@ -104,7 +104,7 @@ fn seek(
 ) -> Result<Next, AllocError>
     ensures { IfOk result (λ next. HasSought left (pages_of pages.now) key above (from_of from) page next) }
 {
-    match pages.cells_at(alloc, left, above, page)? {
+    match cells_at(alloc, pages, left, above, page)? {
         Ok(PageCells::Leaf(cells)) => in_leaf(alloc, page, first_from(key, cells.as_slice())),
         Ok(PageCells::Interior { cells, right }) => {
             let children = children_from(alloc, from, cells.as_slice(), right)?;

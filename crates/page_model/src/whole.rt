@@ -5,19 +5,16 @@ ghost use Rattle.page_list.specs.Pages.{IsGood, Among};
 ghost use Rattle.page_list.specs.Freelist.{Trunk, free_pages};
 ghost use Rattle.page_model.specs.Tree.{Tree};
 ghost use Rattle.page_model.specs.Whole.{IsWholeFor, first_page};
-ghost use Rattle.page_model.specs.Plain.{pages_of};
+ghost use Rattle.plain_pages.specs.Plain.{pages_of};
 ghost use Rattle.page_model.specs.Forest.{IsLack, AreWholeFor};
 ghost use Rattle.page_model.specs.ForestSteps.{IsTreeLack, IsWholeWith, AreWholeWith, IsWholeFreelist};
 
-use crate::different::{first_twice, times};
-use crate::freelist::{PlainTrunk, freelist_of};
 use crate::header::has_header;
 use crate::laws::one_tree;
-use crate::pages::PlainPages;
 use crate::path::MOST_DEPTH;
 use crate::tree::tree_at;
-use crate::words::word_of;
 use page_list::one_freelist;
+use plain_pages::{PlainPages, PlainTrunk, first_twice, freelist_of, times, word_of};
 use std::alloc::{AllocError, Global};
 
 /// Where page 1 says how many pages are free.

@@ -2,7 +2,7 @@
 
 ghost use Rattle.std.specs.Prelude.{◌≡◌, ◌↔◌, ℕ, List, [], ◌∷◌, map, IsTrue, IfOk, IfErr};
 ghost use Rattle.page_model.specs.Database.{IsWhole};
-ghost use Rattle.page_model.specs.Plain.{pages_of};
+ghost use Rattle.plain_pages.specs.Plain.{pages_of};
 ghost use Rattle.schema_model.specs.Steps.{HaveRecords, HasRecordsIn};
 
 use crate::records::{are_records_of, are_sound, records_of};

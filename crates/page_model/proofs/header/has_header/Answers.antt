@@ -1,6 +1,6 @@
 use Rattle.std.proofs.Common.{ℕ, ◌*◌, List, take, sym, ap, ap₂, ◌∙◌}
 use Rattle.std.proofs.lemmas.Bool.{false≢true}
-use Rattle.page_model.specs.Plain.{pages_of}
+use Rattle.plain_pages.specs.Plain.{pages_of}
 use Rattle.page_model.specs.ForestSteps.{without_size}
 use Rattle.page_model.proofs.HeaderLemmas.{IsRead, accepted, refused, none_of}
 use Rattle.page_model.proofs.header.has_header.Goals as goal

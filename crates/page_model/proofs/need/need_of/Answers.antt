@@ -2,11 +2,11 @@ use Rattle.std.proofs.Common.{◌≡◌, ℕ, ◌+◌, pos, Option, None, IfSome
 use Rattle.page_model.specs.Tree.{Row, rows_of}
 use Rattle.page_model.specs.Whole.{most_depth, first_page}
 use Rattle.page_model.specs.Need.{need_of_trees, need_of_rows}
-use Rattle.page_model.specs.Plain.{pages_of}
+use Rattle.plain_pages.specs.Plain.{pages_of}
 use Rattle.page_model.specs.Gathered.{HasNoTree}
 use Rattle.page_model.specs.GatherSteps.{low_of, Gathers}
 use Rattle.page_model.specs.declared.gather.Summary.{Summary}
-use Rattle.page_model.proofs.DifferentLemmas.{among_at}
+use Rattle.plain_pages.proofs.DifferentLemmas.{among_at}
 use Rattle.page_model.proofs.ForestLemmas.{forest_more, need_push}
 use Rattle.page_model.proofs.need.need_of.Goals as goal
 

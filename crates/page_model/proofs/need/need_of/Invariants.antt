@@ -1,7 +1,7 @@
 use Rattle.std.proofs.Common.{◌≡◌, ◌+◌, length, take}
 use Rattle.page_model.specs.Whole.{first_page}
 use Rattle.page_model.specs.Need.{need_of_trees}
-use Rattle.page_model.specs.Plain.{pages_of}
+use Rattle.plain_pages.specs.Plain.{pages_of}
 use Rattle.page_model.specs.Forest.{HasForest}
 use Rattle.page_model.proofs.need.need_of.Given as goal
 

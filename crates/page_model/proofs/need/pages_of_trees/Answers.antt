@@ -2,11 +2,11 @@ use Rattle.std.proofs.Common.{◌≡◌, ℕ, ◌++◌, pos, Option, None, IfSom
 use Rattle.std.specs.List.{flat_map}
 use Rattle.page_model.specs.Tree.{pages_of as tree_pages}
 use Rattle.page_model.specs.Whole.{most_depth}
-use Rattle.page_model.specs.Plain.{pages_of}
+use Rattle.plain_pages.specs.Plain.{pages_of}
 use Rattle.page_model.specs.Gathered.{HasNoTree}
 use Rattle.page_model.specs.GatherSteps.{low_of, Gathers}
 use Rattle.page_model.specs.declared.gather.Summary.{Summary}
-use Rattle.page_model.proofs.DifferentLemmas.{among_at}
+use Rattle.plain_pages.proofs.DifferentLemmas.{among_at}
 use Rattle.page_model.proofs.ForestLemmas.{forest_more, flat_push}
 use Rattle.page_model.proofs.need.pages_of_trees.Goals as goal
 

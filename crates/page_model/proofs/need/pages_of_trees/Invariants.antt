@@ -1,7 +1,7 @@
 use Rattle.std.proofs.Common.{◌≡◌, take}
 use Rattle.std.specs.List.{flat_map}
 use Rattle.page_model.specs.Tree.{pages_of as tree_pages}
-use Rattle.page_model.specs.Plain.{pages_of}
+use Rattle.plain_pages.specs.Plain.{pages_of}
 use Rattle.page_model.specs.Forest.{HasForest}
 use Rattle.page_model.proofs.need.pages_of_trees.Given as goal
 

@@ -5,7 +5,7 @@ use Rattle.std.proofs.lemmas.Result.{IfOk-weaker}
 use Rattle.tree_page.specs.declared.cell.LeafCell.{LeafCell}
 use Rattle.tree_page.specs.declared.cell.InnerCell.{InnerCell}
 use Rattle.page_model.specs.Walk.{PathEnd, AtKey, first_from, child_for}
-use Rattle.page_model.specs.Plain.{pages_of}
+use Rattle.plain_pages.specs.Plain.{pages_of}
 use Rattle.page_model.specs.Steps.{IsKept, Leads}
 use Rattle.page_model.proofs.KeptLemmas.{cells_kept}
 use Rattle.page_model.proofs.PathStepLemmas.{leads_leaf, leads_down}

@@ -3,7 +3,7 @@ use Rattle.std.proofs.lemmas.Int.{to_z-of_z}
 use Rattle.std.proofs.lemmas.Result.{IfOk-weaker}
 use Rattle.page_model.specs.Whole.{most_depth}
 use Rattle.page_model.specs.Walk.{PathEnd, Path}
-use Rattle.page_model.specs.Plain.{pages_of}
+use Rattle.plain_pages.specs.Plain.{pages_of}
 use Rattle.page_model.specs.Steps.{Leads}
 use Rattle.page_model.proofs.PathStepLemmas.{is_path}
 use Rattle.page_model.proofs.path.path_of.Goals as goal

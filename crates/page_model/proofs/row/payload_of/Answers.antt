@@ -1,6 +1,6 @@
 use Rattle.std.proofs.Common.{◌≡◌, ◌∙◌, ap, sym, subst, List, ℕ, ◌++◌, ◌-◌, length}
 use Rattle.page_model.specs.Walk.{Accepts}
-use Rattle.page_model.specs.Plain.{pages_of}
+use Rattle.plain_pages.specs.Plain.{pages_of}
 use Rattle.page_model.proofs.RowLemmas.{refused}
 use Rattle.page_model.proofs.row.payload_of.Goals as goal
 

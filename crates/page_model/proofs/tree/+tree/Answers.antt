@@ -7,7 +7,7 @@ use Rattle.tree_page.specs.declared.cell.InnerCell.{InnerCell}
 use Rattle.tree_page.specs.declared.cell.PageCells.{PageCells}
 use Rattle.page_model.specs.Tree.{Tree, Child}
 use Rattle.page_model.specs.Held.{HasCells}
-use Rattle.page_model.specs.Plain.{pages_of}
+use Rattle.plain_pages.specs.Plain.{pages_of}
 use Rattle.page_model.specs.Gathered.{HasNoTree}
 use Rattle.page_model.specs.GatherSteps.{low_of, last_key, Tells, Gathers}
 use Rattle.page_model.specs.declared.gather.Summary.{Summary}
@@ -68,7 +68,7 @@ tree_at-returns-in-None-clause-none t c = λ tree has.
     let pages = pages_of c.args.pages.now in
     let top = top_cells pages c.args.levels c.args.page tree has in
     let P : Option PageCells → Type 0 = λ found. IfNone found ((cells : PageCells) → ¬ (HasCells pages c.args.page cells)) in
-    subst P c.in-None.is c.in_ok-cells_at.ensures.none top.cells top.has
+    subst P c.in-None.is c.in_ok-cells_of.ensures.none top.cells top.has
 
 pub tree_at-returns-in-Some-Leaf-clause-found : goal.tree_at-returns-in-Some-Leaf-clause-found
 tree_at-returns-in-Some-Leaf-clause-found t c =

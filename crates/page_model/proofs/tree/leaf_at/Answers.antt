@@ -1,6 +1,6 @@
 use Rattle.std.proofs.Common.{Option, IfNone, List, Vec, Global, subst}
 use Rattle.page_model.specs.Tree.{Row}
-use Rattle.page_model.specs.Plain.{pages_of}
+use Rattle.plain_pages.specs.Plain.{pages_of}
 use Rattle.page_model.specs.GatherSteps.{AreRowsOf}
 use Rattle.page_model.specs.declared.tree_rows.PlainRow.{PlainRow}
 use Rattle.page_model.proofs.HoldLemmas.{leaf_below}

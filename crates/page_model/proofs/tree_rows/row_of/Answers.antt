@@ -1,6 +1,6 @@
 use Rattle.std.proofs.Common.{◌≡◌, ℕ, ◌+◌, length, ap, subst, arith, inl, inr, List}
-use Rattle.page_model.specs.Plain.{pages_of, ChainEnds}
-use Rattle.page_model.specs.declared.chain.ChainEnd.{ChainEnd}
+use Rattle.plain_pages.specs.Plain.{pages_of, ChainEnds}
+use Rattle.plain_pages.specs.declared.chain.ChainEnd.{ChainEnd}
 use Rattle.page_model.proofs.TreeRowLemmas.{no_row_broken, no_row_failing}
 use Rattle.page_model.proofs.tree_rows.row_of.Goals as goal
 

@@ -1,7 +1,7 @@
 use Rattle.std.proofs.Common.{◌≡◌, Option, IfNone, subst}
 use Rattle.page_model.specs.Tree.{Row}
 use Rattle.page_model.specs.Held.{HasRow}
-use Rattle.page_model.specs.Plain.{pages_of}
+use Rattle.plain_pages.specs.Plain.{pages_of}
 use Rattle.page_model.specs.declared.tree_rows.PlainRow.{PlainRow}
 use Rattle.page_model.proofs.GatherLemmas.{no_rows}
 use Rattle.page_model.proofs.tree_rows.rows_of_cells.Goals as goal

@@ -1,5 +1,5 @@
 use Rattle.std.proofs.Common.{take}
-use Rattle.page_model.specs.Plain.{pages_of}
+use Rattle.plain_pages.specs.Plain.{pages_of}
 use Rattle.page_model.specs.GatherSteps.{AreRowsOf}
 use Rattle.page_model.proofs.tree_rows.rows_of_cells.Given as goal
 

@@ -4,7 +4,7 @@ use Rattle.std.proofs.lemmas.Int.{to_z-of_z}
 use Rattle.std.proofs.lemmas.Result.{IfOk-weaker}
 use Rattle.tree_page.specs.declared.cell.InnerCell.{InnerCell}
 use Rattle.page_model.specs.Walk.{Next, in_leaf, first_from, children_from}
-use Rattle.page_model.specs.Plain.{pages_of}
+use Rattle.plain_pages.specs.Plain.{pages_of}
 use Rattle.page_model.specs.Steps.{HasSought, HasFirst, from_of}
 use Rattle.page_model.proofs.WalkStepLemmas.{sought_leaf, sought_below}
 use Rattle.page_model.proofs.walk.+seek.Goals as goal

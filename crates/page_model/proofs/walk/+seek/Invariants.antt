@@ -1,6 +1,6 @@
 use Rattle.std.proofs.Common.{◌+◌, ◌*◌, drop}
 use Rattle.page_model.specs.Walk.{Next, Seeks, FirstOf}
-use Rattle.page_model.specs.Plain.{pages_of}
+use Rattle.plain_pages.specs.Plain.{pages_of}
 use Rattle.page_model.specs.Steps.{from_of}
 use Rattle.page_model.proofs.walk.+seek.Given as goal
 

@@ -1,7 +1,7 @@
 use Rattle.std.proofs.Common.{rules, SFits, w64, ◌≤ℤ◌, ◌<ℤ◌, arith}
 use Rattle.std.proofs.lemmas.Int.{to_z-of_z, ints}
 use Rattle.page_model.specs.Whole.{most_depth}
-use Rattle.page_model.specs.Plain.{pages_of}
+use Rattle.plain_pages.specs.Plain.{pages_of}
 use Rattle.page_model.specs.Steps.{HasSought}
 use Rattle.page_model.proofs.WalkStepLemmas.{ends_nothing, ends_fault, ends_above, ends_unreadable, gives_row}
 use Rattle.page_model.proofs.walk.next_row.Goals as goal

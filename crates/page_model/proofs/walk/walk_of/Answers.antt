@@ -1,6 +1,6 @@
 use Rattle.std.proofs.Common.{◌≡◌, refl, rules, SFits, w64, to_z, ◌≤ℤ◌, ◌<ℤ◌, arith, pos, ◌+ℤ◌, ◌++◌, ◌∷◌, []}
 use Rattle.std.proofs.lemmas.Int.{to_z-of_z, ints}
-use Rattle.page_model.specs.Plain.{pages_of}
+use Rattle.plain_pages.specs.Plain.{pages_of}
 use Rattle.page_model.specs.Steps.{HasGone, EndsWalk, GivesRow}
 use Rattle.page_model.proofs.WalkStepLemmas.{gone_row, gone_last, gone_end, gap_falls, next_fits}
 use Rattle.page_model.proofs.walk.walk_of.Goals as goal

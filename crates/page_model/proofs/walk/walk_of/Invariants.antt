@@ -1,5 +1,5 @@
 use Rattle.std.specs.Int.{int_gap}
-use Rattle.page_model.specs.Plain.{pages_of}
+use Rattle.plain_pages.specs.Plain.{pages_of}
 use Rattle.page_model.specs.Steps.{HasGone}
 use Rattle.page_model.proofs.walk.walk_of.Given as goal
 

@@ -1,8 +1,8 @@
 use Rattle.std.proofs.Common.{is_some, ap, sym, ◌∙◌, subst, arith}
 use Rattle.std.proofs.lemmas.Bool.{false≢true}
 use Rattle.page_list.specs.Pages.{IsGood}
-use Rattle.page_model.specs.Plain.{pages_of}
-use Rattle.page_model.proofs.DifferentLemmas.{place_of, among_at}
+use Rattle.plain_pages.specs.Plain.{pages_of}
+use Rattle.plain_pages.proofs.DifferentLemmas.{place_of, among_at}
 use Rattle.page_model.proofs.whole.first_bad.Goals as goal
 
 pub returns-then-is_some-clause-some : goal.returns-then-is_some-clause-some

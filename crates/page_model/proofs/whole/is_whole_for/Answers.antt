@@ -1,7 +1,7 @@
 use Rattle.std.proofs.Common.{◌≡◌, ℕ, ◌≤◌, ◌++◌, List, Result, Vec, Global, IfOk, IfErr, ap₂, ◌∙◌, subst}
 use Rattle.page_list.specs.Pages.{times}
 use Rattle.page_model.specs.Whole.{first_page, named_pages}
-use Rattle.page_model.specs.Plain.{pages_of}
+use Rattle.plain_pages.specs.Plain.{pages_of}
 use Rattle.page_model.specs.Forest.{IsLack}
 use Rattle.page_model.specs.ForestSteps.{AreWholeWith, IsWholeFreelist}
 use Rattle.page_model.specs.declared.whole.Lacks.{Lacks}

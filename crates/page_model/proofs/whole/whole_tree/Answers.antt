@@ -2,7 +2,7 @@ use Rattle.std.proofs.Common.{ℕ, pos, Option, None, not, IfSome, refl, sym, ap
 use Rattle.std.proofs.lemmas.Bool.{false≢true}
 use Rattle.page_model.specs.Tree.{HasDepth}
 use Rattle.page_model.specs.Whole.{most_depth}
-use Rattle.page_model.specs.Plain.{pages_of}
+use Rattle.plain_pages.specs.Plain.{pages_of}
 use Rattle.page_model.specs.GatherSteps.{low_of, Gathers}
 use Rattle.page_model.specs.declared.gather.Summary.{Summary}
 use Rattle.page_model.proofs.GatherLemmas.{depth_is}

@@ -1,8 +1,8 @@
 use Rattle.std.proofs.Common.{ℕ, ◌++◌, List, Result, Vec, Global, IfOk, IfErr, get_or, ap, ◌∙◌, subst}
-use Rattle.page_model.specs.Plain.{pages_of}
+use Rattle.plain_pages.specs.Plain.{pages_of}
 use Rattle.page_model.specs.ForestSteps.{IsTreeLack, IsWholeWith}
 use Rattle.page_model.specs.declared.whole.Lacks.{Lacks}
-use Rattle.page_model.proofs.DifferentLemmas.{among_at}
+use Rattle.plain_pages.proofs.DifferentLemmas.{among_at}
 use Rattle.page_model.proofs.ForestLemmas.{lack_of_tree, whole_more}
 use Rattle.page_model.proofs.whole.whole_trees.Goals as goal
 

@@ -1,5 +1,5 @@
 use Rattle.std.proofs.Common.{take}
-use Rattle.page_model.specs.Plain.{pages_of}
+use Rattle.plain_pages.specs.Plain.{pages_of}
 use Rattle.page_model.specs.ForestSteps.{AreWholeWith}
 use Rattle.page_model.proofs.whole.whole_trees.Given as goal
 

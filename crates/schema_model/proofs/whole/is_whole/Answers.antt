@@ -7,7 +7,7 @@ use Rattle.page_model.specs.Whole.{IsWholeFor}
 use Rattle.page_model.specs.Database.{Table, NamesDiffer}
 use Rattle.page_model.specs.Gathered.{HasRows}
 use Rattle.page_model.specs.Forest.{AreWholeFor}
-use Rattle.page_model.specs.Plain.{pages_of}
+use Rattle.plain_pages.specs.Plain.{pages_of}
 use Rattle.schema_model.specs.Steps.{AreRecords, IsSound, AreTables, HaveRecords}
 use Rattle.schema_model.proofs.DatabaseLemmas.{Known, no_tree, not_sound, same_name, not_for_roots, no_rows_in, found_whole, none_of, some_of, not_so, is_so, err_of, ok_of}
 use Rattle.schema_model.proofs.whole.is_whole.Goals as goal

@@ -1,0 +1,4 @@
+pub mod DifferentLemmas
+pub mod WordLemmas
+pub mod CourseLemmas
+pub mod FreeLemmas

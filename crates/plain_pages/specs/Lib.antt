@@ -1,0 +1,4 @@
+pub mod Listed
+pub mod Plain
+pub mod ChainSteps
+pub mod FreeSteps

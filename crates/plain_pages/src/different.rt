@@ -2,11 +2,13 @@
 
 ghost use Rattle.std.specs.Prelude.{◌≡◌, ℕ, ◌≤◌, IfSome, IfNone};
 ghost use Rattle.page_list.specs.Pages.{times, AllDifferent};
+ghost use Rattle.plain_pages.specs.Different.{IsFirst};
 
 /// The first number of the list that stands in it more than once, `None` where they are all different. It compares each
 /// with all.
 pub fn first_twice(numbers: &[u32]) -> Option<u32>
     ensures twice { IfSome result (λ number. 2 ≤ times number numbers.now) }
+    ensures first { IfSome result (IsFirst numbers.now) }
     ensures none { IfNone result (AllDifferent numbers.now) }
 {
     for number in numbers {

@@ -255,3 +255,13 @@ pub record WriteLeaves (old new : SpaceState) (len : ℕ) : Type 0 where
   pub size : new.pages.size ≡ met.pages.size
   pub only : OnlyTwo met.pages new.pages 1 (first_trunk met.pages) ⊎ ((length taken ≡ pages_needed old.pages.usable len) × OnlyThese met.pages new.pages taken)
   pub freelist : (trunks : List Trunk) → IsFreelist old.pages trunks → LeftOf old.pages new.pages trunks taken
+
+-- what was written comes back: reading gives the bytes, and is refused only where the device failed or memory was
+-- missing; and freeing gives just the pages that were written
+pub record WrittenComesBack : Type 0 where
+  pub read : (pages : Pages) (first : ℕ) (numbers payload before after : List ℕ) → IsWritten pages first numbers payload
+      → Found pages first (length payload) before after → after ≡ before ++ payload
+  pub refused : (old new : SpaceState) (first : ℕ) (numbers payload : List ℕ) (fault : SpaceFault) → IsTrue old.tells
+      → IsWritten old.pages first numbers payload → ReadRefused old new first (length payload) fault → Rose old new ⊎ (fault ≡ Memory)
+  pub freed : (old new : Pages) (first : ℕ) (numbers payload : List ℕ) → IsWritten old first numbers payload
+      → (freed : Freed old new first (length payload)) → freed.numbers ≡ numbers

@@ -418,6 +418,33 @@ walk-read old now first count len left walk page before after sizes along is end
       behind = read.bytes_are;
     }
 
+-- how many bytes were read, whatever the pages hold
+pub record Grows (len left room count was now : ℕ) : Type 0 where
+  pub left_is : left ≡ len - room * count
+  pub long : now ≡ was + (len - left)
+
+pub grows-begin : (len room was : ℕ) → Grows len len room 0 was was
+grows-begin len room was = let none = mul-zero room in record { left_is = omega arith; long = omega arith }
+
+pub grows-more : (len left left' room size count : ℕ) (before after after' page : List ℕ) → Grows len left room count (length before) (length after) → left' ≡ left - room
+    → after' ≡ after ++ take (min left room) (drop 4 page) → length page ≡ size → 4 + room ≤ size → Grows len left' room (count + 1) (length before) (length after')
+grows-more len left left' room size count before after after' page grows left_is after_is long fits =
+    let piece : List ℕ = drop 4 page in
+    let all = length-drop 4 page in
+    let taken = length-take-le (min left room) piece (omega arith) in
+    let joined : length after' ≡ length after + length (take (min left room) piece) = ap (λ l. length l) after_is ∙ length-append after (take (min left room) piece) in
+    let more = mul-add room count 1 in
+    let one = mul-one room in
+    let was = grows.left_is in
+    let so_far = grows.long in
+    record { left_is = omega arith; long = omega arith }
+
+pub grows-end : (len left room count was now : ℕ) → 1 ≤ room → Grows len left room count was now → count ≡ div_ceil len room → now ≡ was + len
+grows-end len left room count was now some grows is =
+    let enough = needed_enough len room some in
+    let product : room * count ≡ room * div_ceil len room = ap (λ n. room * n) is in
+    omega (arith, grows.left_is, grows.long)
+
 -- the first bytes of a list stay where more are put behind it
 pub kept-on : (n : ℕ) (was now more before : List ℕ) → take n was ≡ before → n ≡ length before → now ≡ was ++ more → take n now ≡ before
 kept-on n was now more before kept long grow =

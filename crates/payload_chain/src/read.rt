@@ -28,6 +28,8 @@ pub fn read_chain<S: PageSpace>(
     ensures stays { Stays (S.state space.old) (S.state space.new) }
     ensures cause { IfErr result (ReadRefused (S.state space.old) (S.state space.new) first len) }
     ensures found { IsTrue (S.state space.old).tells → OnOk result (Found (S.state space.old).pages first len out.old out.new) }
+    ensures long { OnOk result (length out.new ≡ length out.old + len) }
+    ensures kept { take (length out.old) out.new ≡ out.old }
     ensures refused { OnErr result (out.new ≡ out.old) }
 {
     let before = out.as_slice().len();
@@ -51,6 +53,7 @@ fn read_pages<S: PageSpace>(
     ensures stays { Stays (S.state space.old) (S.state space.new) }
     ensures cause { IfErr result (ReadRefused (S.state space.old) (S.state space.new) first len) }
     ensures found { IsTrue (S.state space.old).tells → OnOk result (Found (S.state space.old).pages first len out.old out.new) }
+    ensures long { OnOk result (length out.new ≡ length out.old + len) }
     ensures kept { take (length out.old) out.new ≡ out.old }
 {
     let room = u64::from(room(space));

@@ -1,6 +1,6 @@
 use Rattle.std.proofs.Common.{◌+◌, ◌-◌, ◌∙◌, ◌++◌, ℕ, List, length, take, drop, min, refl, arith, sym, ap, subst}
 use Rattle.payload_chain.specs.Chains.{ReadRefused}
-use Rattle.payload_chain.proofs.WalkLemmas.{WalksAlong, walks-on, walk-refused, late-refused, walk-read, read-more, kept-on, tells-on, counted, counted_needed, buffer-after, if_err}
+use Rattle.payload_chain.proofs.WalkLemmas.{WalksAlong, walks-on, walk-refused, late-refused, walk-read, read-more, grows-more, grows-end, kept-on, tells-on, counted, counted_needed, buffer-after, if_err}
 use Rattle.payload_chain.proofs.read.read_pages.Goals as goal
 
 pub returns-in_err-left-clause-cause : goal.returns-in_err-left-clause-cause
@@ -29,6 +29,10 @@ loop-preserved g c =
           (sym (buffer-after c.loop.page.len c.loop.page.items c.read_page.new.page c.loop.page.ok.0 (c.read_page.auto.page ∙ ap (λ l. length l) c.deref_mut.ensures.value)))
           (walks-on old now new c.args.first c.loop.counter (c.loop.counter + 1) c.loop.walk c.read_page.new.walk
           c.loop.page.items c.read_page.new.page c.room.ensures.sizes along c.in_ok-left.ensures.steady c.in_ok-left.ensures.stays steps refl);
+      grown = grows-more c.args.len c.loop.left c.in_ok-left.left (old.pages.usable - 4) old.page_size c.loop.counter c.args.out.now c.loop.out c.read_page.new.out
+          c.read_page.new.page c.loop.invariant.grown (c.in_ok-left.ensures.left ∙ ap (λ n. c.loop.left - (n - 4)) along.steady.used)
+          (c.in_ok-left.ensures.out ∙ ap (λ n. c.loop.out ++ take (min c.loop.left (n - 4)) (drop 4 c.read_page.new.page)) along.steady.used)
+          (steps.one_page ∙ along.steady.sized) (omega (arith, c.room.ensures.sizes.least, c.room.ensures.sizes.most));
       kept = kept-on (length c.args.out.now) c.loop.out c.read_page.new.out _ c.args.out.now c.loop.invariant.kept refl c.in_ok-left.ensures.out;
       told = λ t.
           let same = (along.stays.pages_stay t).each c.loop.walk.next in
@@ -59,3 +63,11 @@ returns-clause-found g c =
     c.div_ceil-end.ensures c.from-room.ensures c.room.ensures.value in
     λ t. walk-read (state c.args.space.now) (state c.loop.space) c.args.first c.loop.counter c.args.len c.loop.left c.loop.walk c.loop.page.items
     c.args.out.now c.loop.out c.room.ensures.sizes c.loop.invariant.along (omega arith) c.in_ok-_numbers.ensures.ends (c.loop.invariant.told t) t
+
+pub returns-clause-long : goal.returns-clause-long
+returns-clause-long g c =
+    let state = g.S.PageSpace.state in
+    let least = c.room.ensures.sizes.least in
+    let parts = counted c.div_ceil-end.result c.args.len c.from-room.result c.room.result (state c.args.space.now).pages.usable
+    c.div_ceil-end.ensures c.from-room.ensures c.room.ensures.value in
+    grows-end c.args.len c.loop.left ((state c.args.space.now).pages.usable - 4) c.loop.counter (length c.args.out.now) (length c.loop.out) (omega arith) c.loop.invariant.grown (omega arith)

@@ -2,7 +2,7 @@
 use Rattle.std.proofs.Common.{◌≡◌, ◌≢◌, ◌⊎◌, inl, inr, ℕ, ◌+◌, ◌-◌, ◌*◌, ◌≤◌, ◌<◌, mul-zero, List, [], ◌∷◌, ◌++◌, length, take, drop, slice_index, refl, sym, ap, ◌∙◌, subst, arith, IsTrue, Err, Some}
 use Rattle.page_list.specs.Pages.{Pages, HasPage, SamePage, Among, AllDifferent}
 use Rattle.page_list.specs.Freelist.{Trunk, IsFreelist, first_trunk, free_pages}
-use Rattle.page_list.specs.Chain.{IsChain, pages_needed}
+use Rattle.page_list.specs.Chain.{pages_needed}
 use Rattle.std.specs.Int.{div_ceil}
 use Rattle.std.proofs.lemmas.Bool.{cases_lt}
 use Rattle.page_list.proofs.ChainLemmas.{times-append, among-here, among-front, among-back, among-cons}
@@ -11,7 +11,7 @@ use Rattle.page_pool.specs.Pool.{Gave, GivesTo, GiveCause, NoTrunk, BadTrunk, Gi
 use Rattle.payload_chain.specs.Chains.{GaveOne, AfterGives, AreApart, SparesFirst, OnlyGiven, Freed, Gives, FreeRefused, FreeLeaves, ReadRefused, give_each}
 use Rattle.payload_chain.proofs.ListLemmas.{take-next, split-at}
 use Rattle.payload_chain.proofs.FreelistLemmas.{no_trunk, bad_trunk, give_to-times, word-at, not_among_more}
-use Rattle.payload_chain.proofs.WalkLemmas.{rose-on, tells-on, pages-same, needed_is, needed_enough}
+use Rattle.payload_chain.proofs.WalkLemmas.{rose-on, tells-on, same-on, pages-same, needed_is, needed_enough}
 use Rattle.db_format.specs.declared.fault.SpaceFault.{SpaceFault}
 use Rattle.db_format.specs.declared.fault.SpaceFault.TheVariants.{Failed, Memory, Bad, Corrupt, Large}
 use Rattle.payload_chain.specs.Steps.{HasEach, HasPages, GiveStops, GiveRefused, GiveLeaves}
@@ -141,7 +141,7 @@ gives-others old new (m ∷ more) n after used spares n1 n2 n3 =
       | inr is ↦ gives-others next new more n after.2 (used-same old.usable next.usable one.used used)
           (record { trunk = λ e. spares.trunk (sym is ∙ e); page = spared }) n1 (λ e. n2 (e ∙ is)) (λ among. n3 (among-cons n m more among))
     ] in
-    record { bytes_stay = rest.bytes_stay ∙ here.bytes_stay; mark_stays = rest.mark_stays ∙ here.mark_stays }
+    same-on old next new n here rest
 
 -- and so the first trunk after some pages are given is the old one or one of them
 first-after : (old new : Pages) (numbers : List ℕ) → AfterGives old numbers new → 36 ≤ old.usable → SparesFirst old numbers
@@ -228,7 +228,7 @@ no_give old met first len number trunks gives free apart =
     (record { each = λ n among. (gives.chain.walked.each n (given-among old met first len number n gives (among-front n gives.given (number ∷ []) among))).0 })
     (front-different gives.given (number ∷ gives.more) (subst Q gives.are gives.chain.walked.different))
 
--- what a chain that could not be given leaves
+-- what a chain that could not be freed leaves
 some-others : (old met new : Pages) (first len number : ℕ) (gives : Gives old first len met number) → 36 ≤ old.usable
     → OnlyThree met new 1 (first_trunk met) number → SparesFirst old gives.numbers → OnlyGiven old new gives.numbers
 some-others old met new first len number gives used only spares n n1 n2 n3 =
@@ -240,8 +240,7 @@ some-others old met new first len number gives used only spares n n1 n2 n3 =
       | inr among ↦ let P : ℕ → Type 0 = λ k. Among gives.numbers k in n3 (subst P (sym is) (given_among (first_trunk met) among))
     ] in
     let not_number : n ≢ number = λ is. n3 (given-among old met first len number n gives (among-back n gives.given (number ∷ []) (among-same n number [] (sym is)))) in
-    let later = only.each n n1 not_trunk not_number in
-    record { bytes_stay = later.bytes_stay ∙ here.bytes_stay; mark_stays = later.mark_stays ∙ here.mark_stays }
+    same-on old met new n here (only.each n n1 not_trunk not_number)
 
 pub free-leaves : (old mid new : SpaceState) (first len : ℕ) (numbers : List ℕ) → HasSizes old → Steady old mid → Stays old mid → HasPages old.pages first len numbers
     → IsTrue old.tells → GiveLeaves mid.pages new.pages numbers → FreeLeaves old.pages new.pages first len

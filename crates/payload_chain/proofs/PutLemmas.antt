@@ -15,7 +15,7 @@ use Rattle.page_pool.specs.Space.{SpaceState, HasSizes, Steady, Stays, Holds, Pu
 use Rattle.page_pool.specs.Pool.{NotesChange}
 use Rattle.payload_chain.specs.Chains.{IsWritten, OnlyThese}
 use Rattle.payload_chain.specs.Steps.{HasEach, PutRefused}
-use Rattle.payload_chain.proofs.WalkLemmas.{take-join, needed_is, needed_enough, steady-on, tells-on, rose-on}
+use Rattle.payload_chain.proofs.WalkLemmas.{take-join, needed_is, needed_enough, steady-on, tells-on, same-on, rose-on}
 use Rattle.db_format.specs.declared.fault.SpaceFault.{SpaceFault}
 use Rattle.db_format.specs.declared.fault.SpaceFault.TheVariants.{Failed, Memory, Bad, Corrupt, Large}
 
@@ -287,8 +287,7 @@ puts-on old now new all left left' rest page content chunk x next end start size
       others = λ t n out.
           let holds = put.holds (tells-on old now along.steady t) in
           let here = holds.others n (λ e. let P : ℕ → Type 0 = λ k. Among all k in out (subst P (sym e) (popped-among all left left' x pop))) in
-          let was = along.others t n out in
-          record { bytes_stay = here.bytes_stay ∙ was.bytes_stay; mark_stays = here.mark_stays ∙ was.mark_stays };
+          same-on old.pages now.pages new.pages n (along.others t n out) here;
       marks = λ t n.
           let holds = put.holds (tells-on old now along.steady t) in
           elim (same_or_other x n) as (λ _. (new.pages.bad n ≡ old.pages.bad n) ⊎ IsGood new.pages n) [
@@ -343,9 +342,7 @@ put-refused old now new all left left' rest page x next end (Large pages) along 
 pub put-others : (old now new : SpaceState) (all left rest page : List ℕ) (next end : ℕ) → PutsAlong old now all left next end rest page → Stays now new
     → IsTrue old.tells → OnlyThese old.pages new.pages all
 put-others old now new all left rest page next end along still t n out =
-    let was = along.others t n out in
-    let here = (still.pages_stay (tells-on old now along.steady t)).each n in
-    record { bytes_stay = here.bytes_stay ∙ was.bytes_stay; mark_stays = here.mark_stays ∙ was.mark_stays }
+    same-on old.pages now.pages new.pages n (along.others t n out) ((still.pages_stay (tells-on old now along.steady t)).each n)
 
 -- all pages are put
 pub puts-done : (old now : SpaceState) (all left rest page : List ℕ) (first end : ℕ) → PutsAlong old now all left first end rest page → length left ≡ 0

@@ -5,12 +5,12 @@ use Rattle.page_list.specs.Pages.{Pages, HasPage, SamePage, times, Among, AllDif
 use Rattle.page_list.specs.Freelist.{Trunk, IsFreelist, first_trunk, free_pages}
 use Rattle.page_list.specs.Chain.{pages_needed}
 use Rattle.page_list.proofs.ChainLemmas.{among-more, times-same, times-other, same_or_other, among-here, among-cons}
-use Rattle.page_pool.specs.Space.{SpaceState, Steady, Stays, Grew}
+use Rattle.page_pool.specs.Space.{SpaceState, Steady, Grew}
 use Rattle.page_pool.specs.Pool.{Took, TakesFrom, TakeCause, OnlyTwo, Untouched, take_from, taken_page, without_last}
 use Rattle.payload_chain.specs.Chains.{TookOne, AfterTakes, Wrote, IsWritten, WriteRefused, WriteLeaves, OnlyThese, LeftOf, take_each, size_after, taken_pages, trunk_numbers}
 use Rattle.payload_chain.specs.Steps.{HasEach, PutRefused, TakeRefused, TakeLeaves}
 use Rattle.payload_chain.proofs.FreelistLemmas.{freelist-same, no_trunk, bad_trunk, no_leaf, take_from-times}
-use Rattle.payload_chain.proofs.WalkLemmas.{rose-on, tells-on}
+use Rattle.payload_chain.proofs.WalkLemmas.{rose-on, tells-on, same-on}
 use Rattle.db_format.specs.Header.{greatest_length}
 use Rattle.db_format.specs.declared.fault.SpaceFault.{SpaceFault}
 use Rattle.db_format.specs.declared.fault.SpaceFault.TheVariants.{Failed, Memory, Bad, Corrupt, Large}
@@ -157,9 +157,6 @@ fresh-none size next m (trunk ∷ more) over under is = absurd (omega arith)
 -- page 1 is not free
 first-free : (pages : Pages) (trunks : List Trunk) → IsFreelist pages trunks → ¬ (Among (free_pages trunks) 1)
 first-free pages trunks free among = let two = (free.within 1 among).1 in omega arith
-
-same-on : (a b c : Pages) (n : ℕ) → SamePage a b n → SamePage b c n → SamePage a c n
-same-on a b c n here later = record { bytes_stay = later.bytes_stay ∙ here.bytes_stay; mark_stays = later.mark_stays ∙ here.mark_stays }
 
 behind_first : (n : ℕ) → 2 ≤ n → n ≢ 1
 behind_first n behind is = omega arith

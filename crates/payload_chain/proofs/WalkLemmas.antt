@@ -14,7 +14,7 @@ use Rattle.std.specs.Ordering.{nat_cmp}
 use Rattle.std.specs.BTreeMap.{is_at}
 use Rattle.std.specs.BTreeSet.{BTreeSet, contains, Updates}
 use Rattle.byteorder.specs.Endian.{big_number}
-use Rattle.page_list.specs.Pages.{Pages, HasPage, IsGood, times, Among, number_in}
+use Rattle.page_list.specs.Pages.{Pages, HasPage, IsGood, SamePage, times, Among, number_in}
 use Rattle.page_list.specs.Chain.{IsChain, HasWalked, pages_needed, piece, next_page}
 use Rattle.page_list.proofs.ChainLemmas.{times-append, same_or_other, walked-none, walked-more, holder-more, among-more}
 use Rattle.page_pool.specs.Space.{SpaceState, IsReady, IsWritable, HasSizes, Steady, Stays, PagesStay, Rose}
@@ -88,10 +88,13 @@ sizes-on a b p t = record {
 pub pages_stay-same : (a : Pages) → PagesStay a a
 pages_stay-same a = record { size = refl; each = λ n. record { bytes_stay = refl; mark_stays = refl } }
 
+pub same-on : (a b c : Pages) (n : ℕ) → SamePage a b n → SamePage b c n → SamePage a c n
+same-on a b c n p q = record { bytes_stay = q.bytes_stay ∙ p.bytes_stay; mark_stays = q.mark_stays ∙ p.mark_stays }
+
 pub pages_stay-on : (a b c : Pages) → PagesStay a b → PagesStay b c → PagesStay a c
 pages_stay-on a b c p q = record {
   size = q.size ∙ p.size;
-  each = λ n. record { bytes_stay = (q.each n).bytes_stay ∙ (p.each n).bytes_stay; mark_stays = (q.each n).mark_stays ∙ (p.each n).mark_stays };
+  each = λ n. same-on a b c n (p.each n) (q.each n);
 }
 
 pub stays-same : (a : SpaceState) → Stays a a

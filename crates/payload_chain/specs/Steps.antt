@@ -4,7 +4,6 @@ use Rattle.std.specs.List.{flat_map}
 use Rattle.std.specs.Ordering.{nat_cmp}
 use Rattle.std.specs.BTreeSet.{BTreeSet, contains}
 use Rattle.page_list.specs.Pages.{Pages, HasPage, IsGood, Among, times, number_in}
-use Rattle.page_list.specs.Pages.{AllDifferent, SamePage}
 use Rattle.page_list.specs.Freelist.{first_trunk}
 use Rattle.page_list.specs.Chain.{HasWalked, IsChain, holder, piece}
 use Rattle.page_pool.specs.Space.{SpaceState, PagesStay, Stays, Rose}

@@ -2,7 +2,7 @@ use Rattle.std.proofs.Common.{ℕ, List, length, inl, inr, sym, ap, ◌∙◌, s
 use Rattle.std.proofs.lemmas.Result.{on_ok_weaker}
 use Rattle.std.proofs.lemmas.Result.{on_err_weaker}
 use Rattle.payload_chain.specs.Chains.{FreeRefused, FreeLeaves}
-use Rattle.payload_chain.specs.Steps.{HasPages, GiveRefused, GiveLeaves}
+use Rattle.payload_chain.specs.Steps.{HasPages, GiveRefused}
 use Rattle.payload_chain.proofs.WalkLemmas.{if_err-map, on_err, tells-on, noted-on}
 use Rattle.payload_chain.proofs.GiveLemmas.{free-refused, freed, free-leaves, some-pages}
 use Rattle.payload_chain.proofs.free.free_chain.Goals as goal

@@ -1,4 +1,4 @@
-use Rattle.std.proofs.Common.{◌≡◌, ◌≤◌, inl, ◌+◌, ◌∙◌, ◌++◌, ◌∷◌, [], length, length-append, ℕ, refl, arith, rules, ap}
+use Rattle.std.proofs.Common.{◌≡◌, inl, ◌+◌, ◌∙◌, ◌++◌, ◌∷◌, [], length, length-append, ℕ, refl, arith, rules, ap}
 use Rattle.payload_chain.specs.Steps.{TakeRefused, TakeLeaves}
 use Rattle.payload_chain.proofs.WalkLemmas.{if_err, on_err, steady-on, noted-on}
 use Rattle.payload_chain.proofs.TakeLemmas.{take-refused, take-leaves, taken-leaves, taken-on, each-taken}

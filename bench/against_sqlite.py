@@ -12,7 +12,7 @@ import subprocess
 import sys
 import tempfile
 
-from sqlite_files import TOP, sqlite, varint
+from sqlite_files import copy_of, sqlite, varint
 
 PAGES = [512, 4096, 65536]
 ROWS = 120
@@ -223,15 +223,9 @@ def main():
             texts=len(texts),
             text_cases=", ".join(texts),
         )
-        copy = os.path.join(folder, "copy", "crates", "db_format")
-        shutil.copytree(os.path.join(TOP, "crates", "db_format"), copy, ignore=shutil.ignore_patterns("out"))
-        shutil.copy(os.path.join(TOP, "HANDLES"), os.path.join(folder, "copy", "HANDLES"))
-        with open(os.path.join(TOP, "crates.txt")) as lines, open(os.path.join(folder, "copy", "crates.txt"), "w") as file:
-            file.writelines(line for line in lines if line.startswith("db_format:"))
+        copy = copy_of(os.path.join(folder, "copy"), "db_format", "against_sqlite")
         with open(os.path.join(copy, "src", "against_sqlite.rt"), "w") as file:
             file.write(source)
-        with open(os.path.join(copy, "src", "lib.rt"), "a") as file:
-            file.write("\n#[cfg(test)]\nmod against_sqlite;\n")
         run = subprocess.run(["rt", "try", "--test"], cwd=copy, capture_output=True, text=True)
         print(run.stdout[-2000:], run.stderr[-3000:])
         if run.returncode != 0:

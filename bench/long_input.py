@@ -11,7 +11,7 @@ import threading
 import time
 
 TOP = os.path.dirname(os.path.dirname(os.path.abspath(__file__)))
-LINE = b"no command, sixty-three letters long, which is answered bad-line\n"
+LINE = b"no command, sixty-four letters long, which is answered bad-line\n"
 REPLY = b"error bad-line\n"
 INPUT = 200 * 1024 * 1024
 MOST = 16 * 1024

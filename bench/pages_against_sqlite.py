@@ -19,7 +19,7 @@ import subprocess
 import sys
 import tempfile
 
-from sqlite_files import TOP, sqlite, varint
+from sqlite_files import copy_of, sqlite, varint
 
 PAGES = {512: (900, 1500), 1024: (300, 900), 4096: (200, 600), 65536: (120, 300)}  # rows at first, and changes then
 TABLES = 9
@@ -479,18 +479,9 @@ def main():
             tests += [test_of(f"pages_{size}_{at}", checks[at : at + 20]) for at in range(0, len(checks), 20)]
             said.append(f"page size {size}: {counts}")
             print(said[-1], flush=True)
-        top = os.path.join(folder, "copy")
-        copy = os.path.join(top, "crates", "tree_page")
-        for name in ["tree_page", "db_format"]:
-            here = os.path.join(TOP, "crates", name)
-            shutil.copytree(here, os.path.join(top, "crates", name), ignore=shutil.ignore_patterns("out"))
-        shutil.copy(os.path.join(TOP, "HANDLES"), os.path.join(top, "HANDLES"))
-        with open(os.path.join(TOP, "crates.txt")) as lines, open(os.path.join(top, "crates.txt"), "w") as file:
-            file.writelines(line for line in lines if line.startswith(("db_format:", "tree_page:")))
+        copy = copy_of(os.path.join(folder, "copy"), "tree_page", "against_sqlite")
         with open(os.path.join(copy, "src", "against_sqlite.rt"), "w") as file:
             file.write(TEST.format(tests="\n".join(tests)))
-        with open(os.path.join(copy, "src", "lib.rt"), "a") as file:
-            file.write("\n#[cfg(test)]\nmod against_sqlite;\n")
         run = subprocess.run(["rt", "try", "--test"], cwd=copy, capture_output=True, text=True)
         print(run.stdout[-2000:], run.stderr[-3000:])
         if run.returncode != 0:

@@ -2,7 +2,8 @@ use Rattle.std.proofs.Common.{◌≡◌, ℕ, ◌+◌, ◌≤◌, ◌<◌, nat_e
 use Rattle.std.proofs.lemmas.List.{get_or-take, take-take}
 use lib.Pointwise.{pointwise}
 use Rattle.std.specs.Option.{option_map_or}
-use Rattle.db_format.specs.Header.{number_at, title, is_page_size, page_of, has_size, has_fractions, is_no_database, is_other_page, is_other_reserve, is_fresh, is_corrupt, header_of}
+use Rattle.db_format.specs.Header.{title, is_page_size, page_of, has_size, has_fractions, is_no_database, is_other_page, is_other_reserve, is_fresh, is_corrupt, header_of}
+use Rattle.byte_base.specs.Numbers.{number_at}
 use Rattle.db_format.proofs.PutLemmas.{same_number}
 
 -- two lists of bytes with the same first 100

@@ -1,7 +1,8 @@
 use Rattle.std.proofs.Common.{◌≡◌, ℕ, nat_eq, Bool, true, false, not, ◌&&◌, ◌||◌, List, ◌∷◌, get_or, Option, None, IsTrue, refl, arith, nat_lt}
 use Rattle.std.specs.Bool.{then_some}
 use Rattle.std.proofs.lemmas.Grind.{common_steps}
-use Rattle.db_format.specs.Header.{number_at, is_page_size, IsPageSize, page_of, is_no_database, is_other_page, is_other_reserve, is_fresh, is_corrupt, greatest_length, refusals, first_of}
+use Rattle.db_format.specs.Header.{is_page_size, IsPageSize, page_of, is_no_database, is_other_page, is_other_reserve, is_fresh, is_corrupt, greatest_length, refusals, first_of}
+use Rattle.byte_base.specs.Numbers.{number_at}
 use Rattle.db_format.specs.declared.header.HeaderFault.{HeaderFault}
 
 pub not_first : (a b : Bool) → not a || b ≡ false → a ≡ true

@@ -9,3 +9,4 @@ pub mod FrontLemmas
 pub mod BlankLemmas
 pub mod PartsLemmas
 pub mod ColumnLemmas
+pub mod FitsLemmas

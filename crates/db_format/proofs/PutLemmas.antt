@@ -4,7 +4,7 @@ use Rattle.std.specs.List.{flat_map}
 use borrow.Rule.Slice.PartMut.{put_mid}
 use Rattle.byteorder.specs.Endian.{big_bytes, big_from, big_number}
 use Rattle.byteorder.specs.Numbers.{big_number-reads_back, length-bytes_high_first}
-use Rattle.db_format.specs.Header.{number_at}
+use Rattle.byte_base.specs.Numbers.{number_at}
 use Rattle.db_format.specs.HeaderSteps.{Puts}
 
 -- the bytes of numbers, one behind the other

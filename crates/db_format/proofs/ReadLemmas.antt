@@ -8,7 +8,8 @@ use Rattle.std.proofs.lemmas.List.{ext_get_or, get_or-drop, get_or-append_right,
 use Rattle.db_format.proofs.PutLemmas.{same_number}
 use Rattle.db_format.specs.declared.header.Header.{Header}
 use Rattle.db_format.specs.declared.header.HeaderFault.{HeaderFault}
-use Rattle.db_format.specs.Header.{number_at, page_of, is_page_size, title, has_fractions, has_size, is_no_database, is_other_page, is_other_reserve, is_corrupt, fields_of, header_of, ok_unless, Fits, Says, KeepsOthers, is_field, is_among, blank, IsNew, ReadsNew}
+use Rattle.db_format.specs.Header.{page_of, is_page_size, title, has_fractions, has_size, is_no_database, is_other_page, is_other_reserve, is_corrupt, fields_of, header_of, ok_unless, Fits, Says, KeepsOthers, is_field, is_among, blank, IsNew, ReadsNew}
+use Rattle.byte_base.specs.Numbers.{number_at}
 use Rattle.db_format.specs.HeaderSteps.{beginning}
 use Rattle.db_format.proofs.HeaderLemmas.{IsAccepted, accepted_none, none_accepted, not_first}
 

@@ -1,7 +1,8 @@
 use Rattle.std.proofs.Common.{◌≡◌, ℕ, ◌+◌, ◌≤◌, ◌<◌, ◌⊎◌, nat_eq, Bool, true, false, ◌||◌, cond, List, [], ◌∷◌, length, set, refl, ap, ◌∙◌, inl, ⊎_elim, arith, get_or-set_other, get_or-set_same, length-set}
 use Rattle.std.proofs.lemmas.Grind.{common_steps}
 use Rattle.db_format.specs.declared.header.Header.{Header}
-use Rattle.db_format.specs.Header.{number_at, page_of, Says, KeepsOthers, is_among, is_field}
+use Rattle.db_format.specs.Header.{page_of, Says, KeepsOthers, is_among, is_field}
+use Rattle.byte_base.specs.Numbers.{number_at}
 use Rattle.db_format.specs.HeaderSteps.{Puts}
 use Rattle.db_format.proofs.PutLemmas.{same_number, stays_before}
 

@@ -1,5 +1,6 @@
 -- The text by which the schema keeps a plain table: a name and its columns, and nothing else of SQL.
 -- After sqlite.org, "Database File Format", section 2.6, "Storage Of The SQL Database Schema".
+use Rattle.db_format.specs.declared.create.TheConstants.{NAME_LEN, COLUMNS}
 use Rattle.std.specs.Prelude.{◌≡◌, ◌≢◌, ℕ, ◌≤◌, ◌==◌, nat_eq, Bool, false, ◌||◌, IsTrue, List, ◌++◌, length, replicate, codes, slice_index, All, AllPairs}
 use Rattle.std.specs.Char.{is_ascii_lowercase, is_ascii_digit}
 use Rattle.std.specs.List.{starts_with, join_with_byte, AllZip}
@@ -9,19 +10,19 @@ use Rattle.db_format.specs.declared.create.Create.{Create}
 abbrev pub is_identifier_byte : ℕ → Bool
 is_identifier_byte b = is_ascii_lowercase b || (is_ascii_digit b || b == 95)
 
--- the name of a table or a column: 1 to 64 such bytes, a letter first. Names in `sqlite_` are those of
+-- the name of a table or a column: 1 to NAME_LEN, which is 64, such bytes, a letter first. Names in `sqlite_` are those of
 -- SQLite's own tables (section 2.6.2)
 pub record IsIdentifier (name : List ℕ) : Type 0 where
   pub some : 1 ≤ length name
-  pub short : length name ≤ 64
+  pub short : length name ≤ NAME_LEN
   pub letter : IsTrue (is_ascii_lowercase (slice_index name 0))
   pub each : All (λ b. IsTrue (is_identifier_byte b)) name
   pub own : starts_with nat_eq name (codes "sqlite_") ≡ false
 
--- 1 to 32 such names, all different
+-- 1 to COLUMNS, which is 32, such names, all different
 pub record AreColumns (columns : List (List ℕ)) : Type 0 where
   pub some : 1 ≤ length columns
-  pub few : length columns ≤ 32
+  pub few : length columns ≤ COLUMNS
   pub each : All IsIdentifier columns
   pub different : AllPairs (λ a b. a ≢ b) columns
 

@@ -1,18 +1,14 @@
 -- The database header, the first 100 bytes of a database: what it says, why a file is refused for it, and
 -- what a write of it leaves. Places count from 0, and numbers are big-endian.
 -- After sqlite.org, "Database File Format", section 1.3.
-use Rattle.std.specs.Prelude.{◌≡◌, ℕ, ◌+◌, ◌*◌, ◌/◌, ◌%◌, ◌≤◌, ◌==◌, nat_eq, nat_lt, Bool, true, false, not, ◌&&◌, ◌||◌, if◌then◌else◌, IsTrue, List, [], ◌∷◌, ◌++◌, length, take, drop, codes, slice_index, Option, Some, None, IfSome, Result, Ok, Err}
+use Rattle.std.specs.Prelude.{◌≡◌, ℕ, ◌+◌, ◌*◌, ◌/◌, ◌%◌, ◌≤◌, ◌==◌, nat_eq, nat_lt, Bool, true, false, not, ◌&&◌, ◌||◌, if◌then◌else◌, IsTrue, List, [], ◌∷◌, ◌++◌, length, take, codes, slice_index, Option, Some, None, IfSome, Result, Ok, Err}
 use Rattle.std.specs.Bool.{then_some}
 use Rattle.std.specs.List.{starts_with, list_any}
 use Rattle.std.specs.Option.{option_map_or}
-use Rattle.byteorder.specs.Endian.{big_number}
+use Rattle.byte_base.specs.Numbers.{number_at}
 use Rattle.db_format.specs.declared.header.Header.{Header}
 use Rattle.db_format.specs.declared.header.HeaderFault.{HeaderFault}
 use Rattle.db_format.specs.declared.header.HeaderFault.TheVariants.{NotADatabase, PageSize, FileVersion, Reserved, SchemaFormat, AutoVacuum, Encoding, TooLarge, Corrupt}
-
--- the number in so many bytes at a place
-unfoldable pub number_at : ℕ → List ℕ → ℕ → ℕ
-number_at width bytes place = big_number width (drop place bytes)
 
 -- the text that a database begins with, its zero byte included (section 1.3.1)
 abbrev pub title : List ℕ
@@ -152,6 +148,10 @@ pub record Fits (header : Header) (cksum : Option ℕ) : Type 0 where
 pub record ReadsBack (header : Header) (old new : List ℕ) : Type 0 where
   pub read : (was : Header) (len : ℕ) (cksum : Option ℕ) → header_of old len cksum ≡ Ok was → Fits header cksum →
       header_of new (header.page * header.size) cksum ≡ Ok header
+
+-- a header that is accepted is that of a database of just its size, so it may be written
+abbrev pub AcceptedFits : Type 0
+AcceptedFits = (bytes : List ℕ) (len : ℕ) (cksum : Option ℕ) (header : Header) → header_of bytes len cksum ≡ Ok header → Fits header cksum
 
 -- the header of a database of no pages
 abbrev pub blank : ℕ → ℕ → Header

@@ -1,6 +1,7 @@
 -- What the steps of a write of the header leave. Only these steps speak by these words.
 use Rattle.std.specs.Prelude.{◌≡◌, ℕ, ◌+◌, ◌*◌, ◌≤◌, ◌<◌, ◌⊎◌, List, [], ◌∷◌, ◌++◌, length, slice_index}
-use Rattle.db_format.specs.Header.{number_at, title}
+use Rattle.db_format.specs.Header.{title}
+use Rattle.byte_base.specs.Numbers.{number_at}
 
 -- numbers of so many bytes each stand from a place on, and beside them nothing has changed
 pub record Puts (width : ℕ) (old new : List ℕ) (place : ℕ) (numbers : List ℕ) : Type 0 where

@@ -7,3 +7,4 @@ pub mod HeaderSteps
 pub mod Create
 pub mod CreateSteps
 pub mod Spill
+pub mod Schema

@@ -1,7 +1,6 @@
 //! Why a format could not be read, and why a call on pages was refused.
 
 ghost use Rattle.std.specs.Prelude.{◌≡◌};
-ghost use Rattle.db_format.specs.declared.fault.FormatFault.TheVariants.{Memory};
 
 use std::alloc::{AllocError, AllocFailed};
 use thiserror::Error;
@@ -18,6 +17,8 @@ pub enum FormatFault {
 }
 
 impl From<AllocError> for FormatFault {
+    ghost use Rattle.db_format.specs.declared.fault.FormatFault.TheVariants.{Memory};
+
     ghost from_gives = { λ _ e. e ≡ Memory };
 
     fn from(_e: AllocError) -> FormatFault {
@@ -26,6 +27,8 @@ impl From<AllocError> for FormatFault {
 }
 
 impl<T: Drop> From<AllocFailed<T>> for FormatFault {
+    ghost use Rattle.db_format.specs.declared.fault.FormatFault.TheVariants.{Memory};
+
     ghost from_gives = { λ _ e. e ≡ Memory };
 
     fn from(_e: AllocFailed<T>) -> FormatFault {
@@ -64,4 +67,24 @@ pub enum SpaceFault {
         /// The pages that there would be.
         pages: u32,
     },
+}
+
+impl From<AllocError> for SpaceFault {
+    ghost use Rattle.db_format.specs.declared.fault.SpaceFault.TheVariants.{Memory};
+
+    ghost from_gives = { λ _ e. e ≡ Memory };
+
+    fn from(_e: AllocError) -> SpaceFault {
+        SpaceFault::Memory
+    }
+}
+
+impl<T: Drop> From<AllocFailed<T>> for SpaceFault {
+    ghost use Rattle.db_format.specs.declared.fault.SpaceFault.TheVariants.{Memory};
+
+    ghost from_gives = { λ _ e. e ≡ Memory };
+
+    fn from(_e: AllocFailed<T>) -> SpaceFault {
+        SpaceFault::Memory
+    }
 }

@@ -4,18 +4,20 @@
 //! by a fault of its own: those with a write-ahead log, with a schema format other than 4, with
 //! auto-vacuum, with texts in UTF-16, past 1 GiB, and of another length than the header says where it holds.
 
-ghost use Rattle.std.specs.Prelude.{◌≡◌, ◌+◌, ◌*◌, ◌≤◌, ◌↔◌, ◌==◌, if◌then◌else◌, [], ◌∷◌, ◌++◌, replicate, length, drop, IsTrue};
-ghost use Rattle.db_format.specs.Header.{number_at, page_of, is_page_size, IsPageSize, has_size, has_fractions, is_no_database, is_other_page, is_other_reserve, is_fresh, is_corrupt, greatest_length, first_of, refusals, fields_of, header_of, Says, KeepsOthers, ReadsBack, IsNew, ReadsNew, HeaderInFront};
+ghost use Rattle.std.specs.Prelude.{◌≡◌, ◌+◌, ◌*◌, ◌≤◌, ◌↔◌, ◌==◌, if◌then◌else◌, [], ◌∷◌, ◌++◌, replicate, length, drop, IsTrue, IfOk};
+ghost use Rattle.db_format.specs.Header.{page_of, is_page_size, IsPageSize, has_size, has_fractions, is_no_database, is_other_page, is_other_reserve, is_fresh, is_corrupt, greatest_length, first_of, refusals, fields_of, header_of, Says, KeepsOthers, ReadsBack, IsNew, ReadsNew, HeaderInFront, Fits, AcceptedFits};
+ghost use Rattle.byte_base.specs.Numbers.{number_at};
 ghost use Rattle.db_format.specs.HeaderSteps.{Puts, beginning};
 
+use byte_base::{u16_at, u32_at};
 use byteorder::{BigEndian, ByteOrder};
 use thiserror::Error;
 
 /// What a database begins with.
 const TITLE: &[u8; 16] = b"SQLite format 3\0";
 
-/// The greatest length of a file that is opened, in bytes.
-const GREATEST_LENGTH: u64 = 1 << 30;
+/// The greatest length of a database, in bytes: a longer file is not opened.
+pub const GREATEST_LENGTH: u64 = 1 << 30;
 
 /// The schema format of a database with tables.
 const SCHEMA_FORMAT: u32 = 4;
@@ -104,7 +106,8 @@ pub fn read_header(
     length: u64,
     cksum: Option<u32>,
 ) -> Result<Header, HeaderFault>
-    ensures { result ≡ header_of first.now length cksum }
+    ensures value { result ≡ header_of first.now length cksum }
+    ensures fits { IfOk result (λ header. Fits header cksum) }
 {
     match refusal(first, length, cksum) {
         Some(fault) => Err(fault),
@@ -171,6 +174,11 @@ fn begin_header(page: &mut [u8])
     page[24..100].copy_from_slice(&[0; 76]);
 }
 
+/// A header that is accepted may be written: it is that of a database of just its size.
+pub fn accepted_fits()
+    ensures { AcceptedFits }
+{}
+
 /// The header is in the first 100 bytes: what follows them changes nothing of what is read.
 pub fn header_in_front()
     ensures { HeaderInFront }
@@ -209,7 +217,7 @@ fn refusal(first: &[u8; 100], length: u64, cksum: Option<u32>) -> Option<HeaderF
         return Some(HeaderFault::NotADatabase);
     }
     if is_other_page(first, cksum) {
-        let found = short_at(first, 16);
+        let found = u32::from(u16_at(first, 16));
         return Some(HeaderFault::PageSize { found });
     }
     if first[18] != 1 {
@@ -221,12 +229,12 @@ fn refusal(first: &[u8; 100], length: u64, cksum: Option<u32>) -> Option<HeaderF
     if is_other_reserve(first, cksum) {
         return Some(HeaderFault::Reserved { found: first[20] });
     }
-    let schema = number_at(first, 44);
-    let encoding = number_at(first, 56);
+    let schema = u32_at(first, 44);
+    let encoding = u32_at(first, 56);
     if schema != 4 && !is_fresh(first) {
         return Some(HeaderFault::SchemaFormat { found: schema });
     }
-    if number_at(first, 52) != 0 {
+    if u32_at(first, 52) != 0 {
         return Some(HeaderFault::AutoVacuum);
     }
     if encoding != 1 && !is_fresh(first) {
@@ -248,11 +256,11 @@ fn fields_of(first: &[u8; 100], length: u64) -> Header
     Header {
         page,
         reserved: first[20],
-        counter: number_at(first, 24),
+        counter: u32_at(first, 24),
         size: (length / u64::from(page)) as u32,
-        first_trunk: number_at(first, 32),
-        free_pages: number_at(first, 36),
-        cookie: number_at(first, 40),
+        first_trunk: u32_at(first, 32),
+        free_pages: u32_at(first, 36),
+        cookie: u32_at(first, 40),
     }
 }
 
@@ -266,25 +274,7 @@ fn is_corrupt(first: &[u8; 100], length: u64) -> bool
     let page = u64::from(page_of(first));
     !has_fractions(first)
         || !length.is_multiple_of(page)
-        || has_size(first) && u64::from(number_at(first, 28)) != length / page
-}
-
-/// The big-endian number of two bytes at a place.
-#[tactic(auto, unfolding(crate::specs::Header::number_at))]
-fn short_at(bytes: &[u8], place: usize) -> u32
-    requires { place + 2 ≤ length bytes.now }
-    ensures { result ≡ number_at 2 bytes.now place }
-{
-    u32::from(BigEndian::read_u16(&bytes[place..]))
-}
-
-/// The big-endian number of four bytes at a place.
-#[tactic(auto, unfolding(crate::specs::Header::number_at))]
-fn number_at(bytes: &[u8], place: usize) -> u32
-    requires { place + 4 ≤ length bytes.now }
-    ensures { result ≡ number_at 4 bytes.now place }
-{
-    BigEndian::read_u32(&bytes[place..])
+        || has_size(first) && u64::from(u32_at(first, 28)) != length / page
 }
 
 /// Whether this is a page size: a power of two from 512 to 65536.
@@ -303,7 +293,7 @@ pub fn is_page_size(size: u32) -> bool
 fn page_of(first: &[u8; 100]) -> u32
     ensures { result ≡ page_of first.now }
 {
-    match short_at(first, 16) {
+    match u32::from(u16_at(first, 16)) {
         1 => 65536,
         size => size,
     }
@@ -339,7 +329,7 @@ fn is_other_reserve(first: &[u8; 100], cksum: Option<u32>) -> bool
 fn is_fresh(first: &[u8; 100]) -> bool
     ensures { result ≡ is_fresh first.now }
 {
-    number_at(first, 44) == 0 && number_at(first, 56) == 0
+    u32_at(first, 44) == 0 && u32_at(first, 56) == 0
 }
 
 /// Whether the size in the header holds.
@@ -347,7 +337,7 @@ fn is_fresh(first: &[u8; 100]) -> bool
 fn has_size(first: &[u8; 100]) -> bool
     ensures { result ≡ has_size first.now }
 {
-    number_at(first, 28) != 0 && number_at(first, 24) == number_at(first, 92)
+    u32_at(first, 28) != 0 && u32_at(first, 24) == u32_at(first, 92)
 }
 
 /// Whether the payload fractions are the ones that every database has.

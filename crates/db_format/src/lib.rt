@@ -4,7 +4,6 @@
 //! After sqlite.org, "Database File Format".
 #![tactic(auto)]
 
-mod bytes;
 mod create;
 mod fault;
 mod header;
@@ -15,11 +14,12 @@ mod table_list;
 mod value;
 mod varint;
 
-pub use bytes::{ByteLists, Bytes};
+pub use byte_base::{ByteLists, Bytes};
 pub use create::{Create, are_columns, is_identifier, one_create, read_create, write_create};
 pub use fault::{FormatFault, SpaceFault};
 pub use header::{
-    Header, HeaderFault, header_in_front, is_page_size, new_header, read_header, write_header,
+    GREATEST_LENGTH, Header, HeaderFault, accepted_fits, header_in_front, is_page_size, new_header,
+    read_header, write_header,
 };
 pub use record::{one_record, read_record, write_record};
 pub use report::{Report, Why};

@@ -11,10 +11,10 @@ ghost use Rattle.db_format.specs.Record.{content_size, value_of, Stands, Field, 
 ghost use Rattle.db_format.specs.Reading.{NoCount, Begins, NoValue};
 ghost use Rattle.db_format.specs.Writing.{int_type, int_content, written_content, IsWrittenType, AppendsVarint, AreTypes, IsHeaderSize};
 
-use crate::bytes::Bytes;
 use crate::fault::FormatFault;
 use crate::value::{Record, Value};
 use crate::varint::{VARINT_LEN, put_varint, read_varint};
+use byte_base::Bytes;
 use byteorder::{BigEndian, ByteOrder};
 use std::alloc::{AllocError, Global};
 
@@ -291,7 +291,7 @@ mod tests {
     use std::test::Fail;
 
     #[test]
-    fn integers_have_these_records(rt: HostRuntime) -> Result<(), Fail> {
+    fn values_have_these_records(rt: HostRuntime) -> Result<(), Fail> {
         let cases: [(i64, &[u8]); 10] = [
             (0, b"\x02\x08"),
             (1, b"\x02\x09"),
@@ -305,20 +305,15 @@ mod tests {
             (i64::MIN, b"\x02\x06\x80\x00\x00\x00\x00\x00\x00\x00"),
         ];
         for (number, payload) in cases {
-            let written = write_record(rt.alloc(), &[Value::Int(number)])?;
-            assert!(rt; written.as_slice() == payload, "{number}");
             let read = read_record(rt.alloc(), payload)?;
             assert!(rt;
                 matches!(read.as_slice(), [Value::Int(n)] if *n == number),
                 "{number}"
             );
+            let written = write_record(rt.alloc(), read.as_slice())?;
+            assert!(rt; written.as_slice() == payload, "{number}");
         }
-        Ok(())
-    }
-
-    #[test]
-    fn other_values_have_these_records(rt: HostRuntime) -> Result<(), Fail> {
-        let cases: [&[u8]; 6] = [
+        let others: [&[u8]; 6] = [
             b"\x02\x00",
             b"\x02\x0f\x61",
             b"\x02\x0e\x61",
@@ -326,36 +321,17 @@ mod tests {
             b"\x06\x17\x0f\x0f\x01\x2ftablett\x02CREATE TABLE t(a)",
             b"\x01",
         ];
-        for payload in cases {
+        for payload in others {
             let read = read_record(rt.alloc(), payload)?;
             let written = write_record(rt.alloc(), read.as_slice())?;
             assert!(rt; written.as_slice() == payload, "{payload:?}");
         }
-        let row = read_record(rt.alloc(), cases[4])?;
-        assert!(rt;
-            matches!(row.as_slice(), [Value::Text(kind), _, Value::Text(_), Value::Int(2), Value::Text(_)] if kind.as_slice() == b"table".as_slice())
-        );
-        let real = read_record(rt.alloc(), cases[3])?;
-        assert!(rt; matches!(real.as_slice(), [Value::Real(0x4009_21fb_5444_2d18)]));
-        let blob = read_record(rt.alloc(), cases[2])?;
-        assert!(rt;
-            matches!(blob.as_slice(), [Value::Blob(bytes)] if bytes.as_slice() == b"a".as_slice())
-        );
-        Ok(())
-    }
-
-    #[test]
-    fn long_headers_count_themselves(rt: HostRuntime) -> Result<(), Fail> {
-        for (count, size) in [(126, 1), (127, 2), (200, 2)] {
-            let mut values = Vec::new(rt.alloc());
-            for _ in 0..count {
-                values.push(Value::Null)?;
-            }
-            let written = write_record(rt.alloc(), &values)?;
-            assert!(rt; written.as_slice().len() == count + size, "{count}");
-            let read = read_record(rt.alloc(), written.as_slice())?;
-            assert!(rt; read.as_slice().len() == count, "{count}");
+        let mut values = Vec::new(rt.alloc());
+        for _ in 0..127 {
+            values.push(Value::Null)?;
         }
+        let written = write_record(rt.alloc(), &values)?;
+        assert!(rt; written.as_slice().starts_with(b"\x81\x01") && written.as_slice().len() == 129);
         Ok(())
     }
 

@@ -58,6 +58,7 @@ impl TableList {
 #[cfg(test)]
 mod tests {
     use super::*;
+    use crate::{Record, Value};
     use std::test::Fail;
 
     #[test]
@@ -66,6 +67,9 @@ mod tests {
         let name = Vec::from_slice(rt.alloc(), b"Other")?;
         tables.push(TableEntry::Foreign(Bytes::from_vec(name)))?;
         assert!(rt; matches!(tables.as_slice(), [TableEntry::Foreign(_)]));
+        let mut record = Record::from_vec(Vec::new(rt.alloc()));
+        record.push(Value::Int(7))?;
+        assert!(rt; matches!(record.as_slice(), [Value::Int(7)]));
         Ok(())
     }
 }

@@ -2,7 +2,7 @@
 
 ghost use Rattle.std.specs.Prelude.{◌≡◌, [], ◌∷◌, ◌++◌, OnOk, OnErr};
 
-use crate::bytes::Bytes;
+use byte_base::Bytes;
 use std::alloc::AllocError;
 use std::marker::Model;
 
@@ -57,20 +57,6 @@ impl Record {
         ensures err { OnErr result (self.new ≡ self.old) }
     {
         self.items.push(item)?;
-        Ok(())
-    }
-}
-
-#[cfg(test)]
-mod tests {
-    use super::*;
-    use std::test::Fail;
-
-    #[test]
-    fn records_grow(rt: HostRuntime) -> Result<(), Fail> {
-        let mut record = Record::from_vec(Vec::new(rt.alloc()));
-        record.push(Value::Int(7))?;
-        assert!(rt; matches!(record.as_slice(), [Value::Int(7)]));
         Ok(())
     }
 }

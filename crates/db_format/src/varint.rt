@@ -103,7 +103,7 @@ mod tests {
     use super::*;
 
     #[test]
-    fn numbers_have_these_varints(rt: HostRuntime) {
+    fn numbers_have_these_varints_and_others_are_read(rt: HostRuntime) {
         let cases: [(i64, &[u8]); 9] = [
             (0, b"\x00"),
             (127, b"\x7f"),
@@ -121,11 +121,7 @@ mod tests {
             assert!(rt; &into[..len] == bytes, "{value}");
             assert!(rt; read_varint(bytes) == Some((value, len)), "{value}");
         }
-    }
-
-    #[test]
-    fn other_bytes_are_read_too(rt: HostRuntime) {
-        let cases: [(&[u8], Option<(i64, usize)>); 6] = [
+        let read: [(&[u8], Option<(i64, usize)>); 6] = [
             (b"", None),
             (b"\x81", None),
             (b"\xff\xff\xff\xff\xff\xff\xff\xff", None),
@@ -133,7 +129,7 @@ mod tests {
             (b"\x05\xff", Some((5, 1))),
             (b"\x80\x80\x80\x80\x80\x80\x80\x80\x01\x07", Some((1, 9))),
         ];
-        for (bytes, found) in cases {
+        for (bytes, found) in read {
             assert!(rt; read_varint(bytes) == found, "{bytes:?}");
         }
     }

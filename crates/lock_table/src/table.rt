@@ -1,5 +1,6 @@
 //! The table of the locks on one file.
 
+ghost use Rattle.lock_table.specs.declared.table.TheConstants.{OWNERS};
 ghost use Rattle.std.specs.Prelude.{◌≡◌, ◌+◌, ◌<◌, ◌↔◌, length, IsTrue, IfSome, IfNone};
 ghost use Rattle.vfs_model.specs.Lock.{all_free, level_at, MayAsk, KeepsOut, IsHolder, IsUnhindered, Lowers};
 ghost use Rattle.lock_table.specs.Take.{Takes};
@@ -106,7 +107,7 @@ impl LockTable {
 /// Where the level of a connection stands in a table.
 fn place_of(owner: Owner) -> usize
     ensures value { result + 1 ≡ owner }
-    ensures within { result < 8 }
+    ensures within { result < OWNERS }
 {
     usize::from(owner.number()) - 1
 }

@@ -2,7 +2,7 @@
 
 ghost use Rattle.std.specs.Prelude.{◌≡◌, ℕ, ◌≤◌, List, length, IfOk, IfNone, OnSome};
 ghost use Rattle.vfs_model.specs.File.{absent};
-ghost use Rattle.vfs_trait.specs.Count.{Rose};
+ghost use Rattle.byte_base.specs.Count.{Rose};
 
 use crate::SureVfs;
 use crate::sure::zero_all;

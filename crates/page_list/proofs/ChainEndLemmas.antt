@@ -1,8 +1,8 @@
 -- A chain that is not there ends in one way.
-use Rattle.std.proofs.Common.{◌≡◌, ◌≢◌, ◌⊎◌, inl, inr, ℕ, zero, suc, ◌+◌, ◌-◌, ◌≤◌, ◌<◌, List, [], ◌∷◌, ◌++◌, length, refl, sym, ap, ap₂, ◌∙◌, subst, arith, Some, None}
+use Rattle.std.proofs.Common.{◌≡◌, ◌≢◌, ◌⊎◌, inl, inr, ℕ, ◌≤◌, ◌<◌, List, ◌∷◌, ◌++◌, length, sym, ◌∙◌, subst, arith, Some}
 use Rattle.std.proofs.lemmas.Bool.{cases_order}
-use Rattle.page_list.specs.Pages.{Pages, HasPage, IsGood, times, Among, AllDifferent}
-use Rattle.page_list.specs.Chain.{AreLinked, HasWalked, BreaksAt, FailsAt, LeavesPages, MeetsAgain, OneEnd, holder, pages_needed}
+use Rattle.page_list.specs.Pages.{Pages, HasPage, IsGood, times, Among}
+use Rattle.page_list.specs.Chain.{HasWalked, BreaksAt, FailsAt, LeavesPages, MeetsAgain, OneEnd, holder, pages_needed}
 use Rattle.page_list.proofs.ChainLemmas.{linked-same, linked-front, times-append, among-back, among-here}
 
 -- a page that a shorter walk would go on with is gone over by a longer one
@@ -44,7 +44,8 @@ not_gone pages first len page b fewer gone = elim b.why [
 -- why a walk ends, as `BreaksAt` says it
 abbrev Why : Pages → ℕ → ℕ → ℕ → List ℕ → ℕ → Type 0
 Why pages first len page numbers next =
-    ((length numbers < pages_needed pages.usable len) × (LeavesPages pages first numbers next page ⊎ MeetsAgain numbers next page)) ⊎ ((length numbers ≡ pages_needed pages.usable len) × (next ≢ 0) × (page ≡ holder first numbers))
+    ((length numbers < pages_needed pages.usable len) × (LeavesPages pages first numbers next page ⊎ MeetsAgain numbers next page))
+    ⊎ ((length numbers ≡ pages_needed pages.usable len) × (next ≢ 0) × (page ≡ holder first numbers))
 
 -- the pages that two ends over the same walk name
 same_page : (pages : Pages) (first len page page' : ℕ) (numbers : List ℕ) (next : ℕ) → Why pages first len page numbers next → Why pages first len page' numbers next
@@ -64,8 +65,10 @@ breaks_once pages first len page page' a b = elim (cases_order (length a.numbers
       let P : List ℕ → Type 0 = λ l. Why pages first len page' l b.next in
       let Q : ℕ → Type 0 = λ n. Why pages first len page' a.numbers n in
       same_page pages first len page page' a.numbers a.next a.why (subst Q (sym walks.1) (subst P (sym walks.0) b.why)) a.walked.each
-  | inr (inl less) ↦ absurd (not_gone pages first len page a (omega (arith, less, most pages first len page' b)) (gone_over pages first b.next a.next b.numbers a.numbers b.walked a.walked less))
-  | inr (inr more) ↦ absurd (not_gone pages first len page' b (omega (arith, more, most pages first len page a)) (gone_over pages first a.next b.next a.numbers b.numbers a.walked b.walked more))
+  | inr (inl less) ↦
+      absurd (not_gone pages first len page a (omega (arith, less, most pages first len page' b)) (gone_over pages first b.next a.next b.numbers a.numbers b.walked a.walked less))
+  | inr (inr more) ↦
+      absurd (not_gone pages first len page' b (omega (arith, more, most pages first len page a)) (gone_over pages first a.next b.next a.numbers b.numbers a.walked b.walked more))
 ]
 
 bad_not_good : (pages : Pages) (page : ℕ) (sums : ℕ × ℕ) → pages.bad page ≡ Some sums → ¬ (IsGood pages page)

@@ -1,58 +1,12 @@
--- How often a number stands in a list, and walks along chains.
-use Rattle.std.proofs.Common.{◌≡◌, ◌≢◌, ◌⊎◌, inl, inr, ℕ, ◌+◌, ◌≤◌, ◌<◌, List, [], ◌∷◌, ◌++◌, length, take, refl, sym, ap, ◌∙◌, subst, arith}
-use Rattle.std.proofs.lemmas.Bool.Decides.{nat_tests}
+-- Walks along chains.
+use Rattle.std.proofs.Common.{◌≡◌, inl, inr, ℕ, ◌≤◌, ◌<◌, List, [], ◌∷◌, ◌++◌, length, take, drop, ◌-◌, refl, sym, ap, ◌∙◌, subst, arith}
 use Rattle.std.specs.List.{flat_map}
-use Rattle.page_list.specs.Pages.{Pages, HasPage, IsGood, times, Among, AllDifferent}
+use Rattle.byte_base.specs.Numbers.{number_at}
+use Rattle.page_list.specs.Pages.{Pages, HasPage, IsGood, SamePage, times, Among}
 use Rattle.page_list.specs.Chain.{AreLinked, HasWalked, IsChain, BreaksAt, FailsAt, OneChain, next_page, holder, piece, pages_needed}
-
-pub times-append : (m : ℕ) (a b : List ℕ) → times m (a ++ b) ≡ times m a + times m b
-times-append m [] b = omega arith
-times-append m (x ∷ a) b = omega (arith, times-append m a b)
-
--- a number stands once in a list of it alone, and no other does
-pub times-same : (m : ℕ) → times m (m ∷ []) ≡ 1
-times-same m = grind (arith, nat_tests)
-
-pub times-other : (m x : ℕ) → x ≢ m → times m (x ∷ []) ≡ 0
-times-other m x other = grind (arith, nat_tests)
-
--- either of the two
-pub same_or_other : (m x : ℕ) → ((x ≡ m) × (times m (x ∷ []) ≡ 1)) ⊎ ((x ≢ m) × (times m (x ∷ []) ≡ 0))
-same_or_other m x = grind (arith, nat_tests)
-
-pub among-cons : (m x : ℕ) (a : List ℕ) → Among a m → Among (x ∷ a) m
-among-cons m x a there = omega arith
-
-pub among-here : (m : ℕ) (a : List ℕ) → Among (m ∷ a) m
-among-here m a = omega (arith, times-same m)
-
-pub among-front : (m : ℕ) (a b : List ℕ) → Among a m → Among (a ++ b) m
-among-front m a b there = omega (arith, times-append m a b)
-
-pub among-back : (m : ℕ) (a b : List ℕ) → Among b m → Among (a ++ b) m
-among-back m a b there = omega (arith, times-append m a b)
-
--- a number of a list with one more at its end is that one or stood in it before
-pub among-more : (m x : ℕ) (a : List ℕ) → Among (a ++ x ∷ []) m → Among a m ⊎ (x ≡ m)
-among-more m x a there =
-    elim (same_or_other m x) as (λ _. Among a m ⊎ (x ≡ m)) [
-      | inl same ↦ inr same.0
-      | inr other ↦ inl (let once = times-append m a (x ∷ []) in let none = other.1 in omega arith)
-    ]
-
-not_among : (m : ℕ) (a : List ℕ) → ¬ (Among a m) → times m a ≤ 0
-not_among m a none = omega arith
-
--- a list with one more at its end, which did not stand in it, has no number twice
-pub different-more : (x : ℕ) (a : List ℕ) → AllDifferent a → ¬ (Among a x) → AllDifferent (a ++ x ∷ [])
-different-more x a once new = record {
-  once = λ m. elim (same_or_other m x) as (λ _. times m (a ++ x ∷ []) ≤ 1) [
-    | inl same ↦ let joined = times-append m a (x ∷ []) in let one = same.1 in
-        let P : ℕ → Type 0 = λ y. ¬ (Among a y) in
-        let none : times m a ≤ 0 = not_among m a (subst P same.0 new) in omega arith
-    | inr other ↦ let joined = times-append m a (x ∷ []) in let none = other.1 in let first = once.once m in omega arith
-  ];
-}
+use Rattle.page_list.specs.Laws.{ChainStays}
+pub use Rattle.page_list.proofs.TimesLemmas.{times-append, times-same, times-other, same_or_other, among-cons, among-here}
+pub use Rattle.page_list.proofs.TimesLemmas.{among-front, among-back, among-more, not_among, different-more}
 
 -- a walk goes on by a page that is there, is good and was not met
 pub linked-more : (pages : Pages) (first next : ℕ) (numbers : List ℕ) → AreLinked pages first numbers next
@@ -156,3 +110,36 @@ good pages first page sums numbers payload chain fails =
 
 pub one_chain_holds : OneChain
 one_chain_holds = record { one = one; whole = whole; good = good }
+
+-- a chain depends on no pages but its own
+abbrev AllStay : Pages → Pages → List ℕ → Type 0
+AllStay old new numbers = (number : ℕ) → Among numbers number → HasPage new number × SamePage old new number
+
+all_stay-more : (old new : Pages) (n : ℕ) (more : List ℕ) → AllStay old new (n ∷ more) → AllStay old new more
+all_stay-more old new n more stay = λ m some. stay m (among-cons m n more some)
+
+linked_stays : (old new : Pages) (first : ℕ) (numbers : List ℕ) (next : ℕ) → AllStay old new numbers → AreLinked old first numbers next → AreLinked new first numbers next
+linked_stays old new first [] next stay linked = linked
+linked_stays old new first (n ∷ more) next stay linked =
+    let P : ℕ → Type 0 = λ then. AreLinked new then more next in
+    let same : next_page old n ≡ next_page new n = ap (λ (bytes : List ℕ). number_at 4 bytes 0) (sym (stay n (among-here n more)).1.bytes_stay) in
+    (linked.0, subst P same (linked_stays old new (next_page old n) more next (all_stay-more old new n more stay) linked.1))
+
+pieces_stay : (old new : Pages) (numbers : List ℕ) → new.usable ≡ old.usable → AllStay old new numbers → flat_map (piece new) numbers ≡ flat_map (piece old) numbers
+pieces_stay old new [] used stay = refl
+pieces_stay old new (n ∷ more) used stay =
+    let here : piece new n ≡ piece old n =
+    ap (λ u. take (u - 4) (drop 4 (new.bytes n))) used ∙ ap (λ (bytes : List ℕ). take (old.usable - 4) (drop 4 bytes)) (stay n (among-here n more)).1.bytes_stay in
+    ap (λ (bytes : List ℕ). bytes ++ flat_map (piece new) more) here
+    ∙ ap (λ (bytes : List ℕ). piece old n ++ bytes) (pieces_stay old new more used (all_stay-more old new n more stay))
+
+pub chain_stays_holds : ChainStays
+chain_stays_holds old new first numbers payload used stay chain = record {
+  walked = record {
+    linked = linked_stays old new first numbers 0 stay chain.walked.linked;
+    each = λ n some. ((stay n some).0, (stay n some).1.mark_stays ∙ (chain.walked.each n some).1);
+    different = chain.walked.different;
+  };
+  enough = chain.enough ∙ ap (λ u. pages_needed u (length payload)) (sym used);
+  holds = chain.holds ∙ ap (λ (bytes : List ℕ). take (length payload) bytes) (sym (pieces_stay old new numbers used stay));
+}

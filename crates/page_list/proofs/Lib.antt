@@ -1,3 +1,9 @@
+pub mod TimesLemmas
+pub mod NumberLemmas
+pub mod EditLemmas
 pub mod ChainLemmas
 pub mod ChainEndLemmas
 pub mod FreelistLemmas
+pub mod TakeLemmas
+pub mod GiveLemmas
+pub mod ManyLemmas

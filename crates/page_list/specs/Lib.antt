@@ -1,3 +1,5 @@
 pub mod Pages
 pub mod Freelist
 pub mod Chain
+pub mod Edits
+pub mod Laws

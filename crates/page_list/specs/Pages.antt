@@ -1,8 +1,8 @@
 -- A database as a list of pages: how many there are, what each holds, and which fail their checksum. Pages are
 -- numbered from 1, places in a page from 0, and numbers in a page are big-endian.
 -- After sqlite.org, "Database File Format", section 1.2, "Pages".
-use Rattle.std.specs.Prelude.{◌≡◌, ℕ, ◌+◌, ◌≤◌, ◌==◌, if◌then◌else◌, List, [], ◌∷◌, drop, Option, None}
-use Rattle.byteorder.specs.Endian.{big_number}
+use Rattle.std.specs.Prelude.{◌≡◌, ℕ, ◌+◌, ◌≤◌, ◌<◌, ◌==◌, if◌then◌else◌, List, [], ◌∷◌, length, Option, None}
+use Rattle.byte_base.specs.Numbers.{number_at}
 
 -- the pages: their number, how many bytes of each are used, the bytes of each by its number, and, of a page that
 -- fails its checksum, the checksum that is kept and the one that it has
@@ -21,13 +21,9 @@ pub record HasPage (pages : Pages) (number : ℕ) : Type 0 where
 abbrev pub IsGood : Pages → ℕ → Type 0
 IsGood pages number = pages.bad number ≡ None
 
--- the number in the four bytes at a place
-unfoldable pub number_in : List ℕ → ℕ → ℕ
-number_in bytes place = big_number 4 (drop place bytes)
-
 -- the number in the four bytes at a place of a page
 abbrev pub word : Pages → ℕ → ℕ → ℕ
-word pages number place = number_in (pages.bytes number) place
+word pages number place = number_at 4 (pages.bytes number) place
 
 -- how often a number stands in a list
 abbrev pub times : ℕ → List ℕ → ℕ
@@ -46,3 +42,11 @@ pub record AllDifferent (numbers : List ℕ) : Type 0 where
 pub record SamePage (old new : Pages) (number : ℕ) : Type 0 where
   pub bytes_stay : new.bytes number ≡ old.bytes number
   pub mark_stays : new.bad number ≡ old.bad number
+
+-- pages of one size, of which enough bytes are used, and no more of them than a number of four bytes counts
+pub record AreSized (page_size : ℕ) (pages : Pages) : Type 0 where
+  pub least : 480 ≤ pages.usable
+  pub most : pages.usable ≤ page_size
+  pub short : page_size ≤ 65536
+  pub few : pages.size < 4294967296
+  pub each : (number : ℕ) → HasPage pages number → length (pages.bytes number) ≡ page_size

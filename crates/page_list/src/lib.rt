@@ -4,8 +4,9 @@
 //! After sqlite.org, "Database File Format", sections 1.5 and 1.6.
 #![tactic(auto)]
 
-mod chain;
-mod freelist;
+mod laws;
 
-pub use chain::{one_chain, one_end};
-pub use freelist::one_freelist;
+pub use laws::{
+    chain_stays, freelist_stays, give_keeps, gives_keep, not_damaged, one_chain, one_end,
+    one_freelist, take_keeps, taken_good, takes_keep,
+};

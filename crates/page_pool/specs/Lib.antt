@@ -1,5 +1,4 @@
 pub mod Space
 pub mod Pool
 pub mod Memory
-pub mod Edits
 pub mod Steps

@@ -1,7 +1,7 @@
 -- A page space in memory, as a state.
-use Rattle.std.specs.Prelude.{◌≡◌, ℕ, zero, suc, ◌-◌, true, false, List, [], length, slice_index_or, None}
+use Rattle.std.specs.Prelude.{◌≡◌, ℕ, zero, suc, ◌-◌, true, false, List, [], length, slice_index_or, None, ⊤}
 use Rattle.page_list.specs.Pages.{Pages, IsGood}
-use Rattle.page_pool.specs.Space.{SpaceState}
+use Rattle.page_pool.specs.Space.{SpaceState, IsWritable}
 use Rattle.page_pool.specs.declared.mem_space.MemSpace.{MemSpace}
 
 -- the page of a number, from 1, in a list
@@ -24,8 +24,8 @@ mem_state space = record {
   tells = true;
   page_size = space.page_size;
   pages = mem_pages space;
-  ready = true;
-  writable = true;
+  ready = ⊤;
+  writable = ⊤;
   changed = space.changed;
   faults = 0;
 }
@@ -37,7 +37,6 @@ pub record IsNewSpace (s : SpaceState) (page_size reserved : ℕ) : Type 0 where
   pub used : s.pages.usable ≡ page_size - reserved
   pub empty : s.pages.size ≡ 0
   pub all_good : (number : ℕ) → IsGood s.pages number
-  pub may_be_asked : s.ready ≡ true
-  pub may_be_changed : s.writable ≡ true
+  pub may_be_changed : IsWritable s
   pub unchanged : s.changed ≡ false
   pub no_fault : s.faults ≡ 0

@@ -1,9 +1,9 @@
 //! The head of the freelist, read: page 1, and the first trunk where it names one.
 
-ghost use Rattle.std.specs.Prelude.{◌≡◌, ◌≤◌, IfOk};
+ghost use Rattle.std.specs.Prelude.{◌≤◌, IfOk, IfErr};
 ghost use Rattle.page_list.specs.Pages.{HasPage};
 ghost use Rattle.page_pool.specs.Space.{IsReady, PageCause};
-ghost use Rattle.page_pool.specs.Steps.{Same, ReadsPage, TrunkCause, HeadCause};
+ghost use Rattle.page_pool.specs.Steps.{Same, ReadsPage, ReadsHead, HeadRefused};
 
 use crate::PageSpace;
 use crate::page::Page;
@@ -43,7 +43,8 @@ pub fn read_head<S: PageSpace>(alloc: Global, space: &mut S) -> Result<Head, Spa
     requires ready { IsReady (S.state space.old) }
     requires some { 1 ≤ (S.state space.old).pages.size }
     ensures same { Same (S.state space.old) (S.state space.new) }
-    ensures cause { HeadCause (S.state space.old) (S.state space.new) result }
+    ensures holds { IfOk result (ReadsHead (S.state space.new)) }
+    ensures refused { IfErr result (HeadRefused (S.state space.old) (S.state space.new)) }
 {
     let first = read_page(alloc, space, 1)?;
     let number = first.number(FIRST_TRUNK);
@@ -53,33 +54,19 @@ pub fn read_head<S: PageSpace>(alloc: Global, space: &mut S) -> Result<Head, Spa
     if number > space.size() {
         return Err(SpaceFault::Corrupt { page: 1 });
     }
-    let trunk = read_trunk(alloc, space, number)?;
-    Ok(Head {
-        first,
-        trunk: Some(trunk),
-    })
-}
-
-/// Reads a trunk, which is a page that is there.
-fn read_trunk<S: PageSpace>(
-    alloc: Global,
-    space: &mut S,
-    number: u32,
-) -> Result<TrunkPage, SpaceFault>
-    requires ready { IsReady (S.state space.old) }
-    requires there { HasPage (S.state space.old).pages number }
-    ensures same { Same (S.state space.old) (S.state space.new) }
-    ensures cause { TrunkCause (S.state space.old) (S.state space.new) number result }
-{
     let page = read_page(alloc, space, number)?;
     let leaves = page.number(LEAF_COUNT);
     if leaves > space.usable() / 4 - 2 {
         return Err(SpaceFault::Corrupt { page: number });
     }
-    Ok(TrunkPage {
+    let trunk = TrunkPage {
         number,
         page,
         leaves,
+    };
+    Ok(Head {
+        first,
+        trunk: Some(trunk),
     })
 }
 
@@ -89,11 +76,9 @@ fn read_page<S: PageSpace>(alloc: Global, space: &mut S, number: u32) -> Result<
     requires there { HasPage (S.state space.old).pages number }
     ensures same { Same (S.state space.old) (S.state space.new) }
     ensures cause { PageCause (S.state space.old) (S.state space.new) number result }
-    ensures holds { IfOk result (ReadsPage (S.state space.old) number) }
+    ensures holds { IfOk result (ReadsPage (S.state space.new) number) }
 {
-    let Ok(mut bytes) = vec![in alloc; 0; space.page_size() as usize] else {
-        return Err(SpaceFault::Memory);
-    };
+    let mut bytes = vec![in alloc; 0; space.page_size() as usize]?;
     space.get(number, &mut bytes)?;
     Ok(Page::from_vec(bytes))
 }

@@ -16,3 +16,4 @@ pub use db_format::SpaceFault;
 pub use mem_space::MemSpace;
 pub use pool::{give_page, take_page};
 pub use space::PageSpace;
+pub use write::put_cleared;

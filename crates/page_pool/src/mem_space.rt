@@ -23,6 +23,7 @@ pub struct MemSpace {
     ghost size_of_page: { IsPageSize page_size },
     ghost least: { 480 ≤ usable },
     ghost most: { usable ≤ page_size },
+    ghost spare: { page_size ≤ usable + 255 },
     ghost few: { length pages.items * page_size ≤ greatest_length },
     ghost sized: { (place : ℕ) → place < length pages.items → length (slice_index_or pages.items place []) ≡ page_size },
 }
@@ -82,12 +83,8 @@ impl PageSpace for MemSpace {
         if pages as u64 * self.page_size as u64 > GREATEST_LENGTH {
             return Err(SpaceFault::Large { pages });
         }
-        let Ok(page) = Page::zeros(self.alloc, self.page_size as usize) else {
-            return Err(SpaceFault::Memory);
-        };
-        if self.pages.push(page).is_err() {
-            return Err(SpaceFault::Memory);
-        }
+        let page = Page::zeros(self.alloc, self.page_size as usize)?;
+        self.pages.push(page)?;
         self.changed = true;
         Ok(pages)
     }

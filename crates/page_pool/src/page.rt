@@ -1,10 +1,11 @@
 //! One page.
 
-ghost use Rattle.std.specs.Prelude.{◌≡◌, ℕ, ◌+◌, ◌≤◌, ◌<◌, List, length, replicate, IfOk};
-ghost use Rattle.page_list.specs.Pages.{number_in};
-ghost use Rattle.page_pool.specs.Edits.{Sets, Clears};
+ghost use Rattle.std.specs.Prelude.{◌≡◌, ℕ, ◌+◌, ◌≤◌, List, length, replicate, IfOk};
+ghost use Rattle.byte_base.specs.Numbers.{number_at, with_number};
+ghost use Rattle.page_list.specs.Edits.{cleared};
+ghost use Rattle.page_pool.specs.Space.{IsZeroFrom};
 
-use byteorder::{BigEndian, ByteOrder};
+use byte_base::{put_u32, u32_at};
 use std::alloc::{AllocError, Global};
 use std::marker::Model;
 
@@ -37,6 +38,13 @@ impl Page {
         Page { bytes }
     }
 
+    /// The bytes, without taking memory.
+    pub fn into_vec(self) -> Vec<u8>
+        ensures { result.items ≡ self }
+    {
+        self.bytes
+    }
+
     /// The bytes.
     pub fn bytes(&self) -> &[u8]
         ensures { result.now ≡ self.now }
@@ -55,40 +63,26 @@ impl Page {
     /// The number in the four bytes at a place.
     pub fn number(&self, place: usize) -> u32
         requires { place + 4 ≤ length self.now }
-        ensures { result ≡ number_in self.now place }
+        ensures { result ≡ number_at 4 self.now place }
     {
-        BigEndian::read_u32(&self.bytes[place..])
+        u32_at(&self.bytes, place)
     }
 
     /// Puts a number into the four bytes at a place.
     pub fn set_number(&mut self, place: usize, number: u32)
         requires { place + 4 ≤ length self.old }
-        ensures { Sets self.old self.new place number }
+        ensures size { length self.new ≡ length self.old }
+        ensures value { self.new ≡ with_number 4 place number self.old }
     {
-        put_number(&mut self.bytes, place, number);
+        put_u32(&mut self.bytes, place, number);
     }
-
-    /// Zeros from a place on.
-    pub fn clear_from(&mut self, place: usize)
-        requires { place ≤ length self.old }
-        ensures { Clears self.old self.new place }
-    {
-        clear(&mut self.bytes, place);
-    }
-}
-
-/// Writes a number into the four bytes at a place.
-fn put_number(bytes: &mut [u8], place: usize, number: u32)
-    requires { place + 4 ≤ length bytes.old }
-    ensures { Sets bytes.old bytes.new place number }
-{
-    BigEndian::write_u32(&mut bytes[place..place + 4], number);
 }
 
 /// Writes zeros from a place on.
-fn clear(bytes: &mut [u8], place: usize)
+pub fn clear(bytes: &mut [u8], place: usize)
     requires { place ≤ length bytes.old }
-    ensures { Clears bytes.old bytes.new place }
+    ensures value { bytes.new ≡ cleared place bytes.old }
+    ensures zeros { IsZeroFrom bytes.new place }
 {
     bytes[place..].fill(0);
 }

@@ -1,12 +1,11 @@
 //! The freelist of a page space.
 
-ghost use Rattle.std.specs.Prelude.{◌≡◌, ℕ, ◌+◌, ◌-◌, ◌*◌, ◌≤◌, ◌<◌, min, length, IsTrue, IfOk, OnOk, OnErr};
-ghost use Rattle.page_list.specs.Pages.{HasPage, number_in};
-ghost use Rattle.page_list.specs.Freelist.{first_trunk, full};
+ghost use Rattle.std.specs.Prelude.{◌≡◌, ◌+◌, ◌*◌, ◌≤◌, ◌<◌, IsTrue, IfOk, IfErr, OnOk};
+ghost use Rattle.page_list.specs.Pages.{HasPage};
+ghost use Rattle.page_list.specs.Freelist.{HasHead, full};
 ghost use Rattle.page_pool.specs.Space.{IsWritable, Steady};
-ghost use Rattle.page_pool.specs.Pool.{TakeCause, GiveCause, OnlyTwo, OnlyThree, NoRoom, Untouched, TakesFrom, GivesTo, NotesChange};
-ghost use Rattle.page_pool.specs.Steps.{ReadsPage, ReadsTrunk, Names, Takes, Gives};
-ghost use Rattle.page_pool.specs.Edits.{Sets};
+ghost use Rattle.page_pool.specs.Pool.{Taken, Given, HasNoRoom, TakeRefused, GiveRefused, NotesChange};
+ghost use Rattle.page_pool.specs.Steps.{ReadsPage, ReadsTrunk};
 
 use crate::PageSpace;
 use crate::head::{
@@ -28,13 +27,8 @@ pub fn take_page<S: PageSpace>(alloc: Global, space: &mut S) -> Result<u32, Spac
     requires writable { IsWritable (S.state space.old) }
     requires some { 1 ≤ (S.state space.old).pages.size }
     ensures steady { Steady (S.state space.old) (S.state space.new) }
-    ensures cause { TakeCause (S.state space.old) (S.state space.new) result }
-    ensures refused { IsTrue (S.state space.old).tells → OnErr result (OnlyTwo (S.state space.old).pages (S.state space.new).pages 1 (first_trunk (S.state space.old).pages)) }
-    ensures untouched { Untouched (S.state space.old) (S.state space.new) result }
-    ensures freelist { IsTrue (S.state space.old).tells → IfOk result (TakesFrom (S.state space.old).pages (S.state space.new).pages) }
-    ensures within { IfOk result (HasPage (S.state space.new).pages) }
-    ensures no_fewer { (S.state space.old).pages.size ≤ (S.state space.new).pages.size }
-    ensures changed { IfOk result (λ _. IsTrue (S.state space.new).changed) }
+    ensures taken { IfOk result (Taken (S.state space.old) (S.state space.new)) }
+    ensures refused { IfErr result (TakeRefused (S.state space.old) (S.state space.new)) }
     ensures noted { NotesChange (S.state space.old) (S.state space.new) }
 {
     let Head { first, trunk } = read_head(alloc, space)?;
@@ -55,12 +49,8 @@ pub fn give_page<S: PageSpace>(alloc: Global, space: &mut S, number: u32) -> Res
     requires writable { IsWritable (S.state space.old) }
     requires there { HasPage (S.state space.old).pages number }
     ensures steady { Steady (S.state space.old) (S.state space.new) }
-    ensures size { (S.state space.new).pages.size ≡ (S.state space.old).pages.size }
-    ensures cause { GiveCause (S.state space.old) (S.state space.new) number result }
-    ensures refused { IsTrue (S.state space.old).tells → OnErr result (OnlyThree (S.state space.old).pages (S.state space.new).pages 1 (first_trunk (S.state space.old).pages) number) }
-    ensures untouched { Untouched (S.state space.old) (S.state space.new) result }
-    ensures freelist { IsTrue (S.state space.old).tells → OnOk result (GivesTo (S.state space.old).pages (S.state space.new).pages number) }
-    ensures changed { OnOk result (IsTrue (S.state space.new).changed) }
+    ensures given { OnOk result (Given (S.state space.old) (S.state space.new) number) }
+    ensures refused { IfErr result (GiveRefused (S.state space.old) (S.state space.new) number) }
     ensures noted { NotesChange (S.state space.old) (S.state space.new) }
 {
     let Head { first, trunk } = read_head(alloc, space)?;
@@ -83,16 +73,18 @@ fn full_at(usable: u32) -> u32
 /// Takes the first trunk, which has no leaf.
 fn take_trunk<S: PageSpace>(space: &mut S, first: Page, trunk: TrunkPage) -> Result<u32, SpaceFault>
     requires writable { IsWritable (S.state space.old) }
-    requires some { 1 ≤ (S.state space.old).pages.size }
     requires first_holds { ReadsPage (S.state space.old) 1 first }
-    requires trunk_holds { ReadsTrunk (S.state space.old) trunk }
-    requires named { Names first trunk.number }
+    requires trunk_holds { ReadsTrunk (S.state space.old) first trunk }
     requires empty { trunk.leaves ≡ 0 }
-    ensures { Takes (S.state space.old) (S.state space.new) result }
+    ensures steady { Steady (S.state space.old) (S.state space.new) }
+    ensures taken { IfOk result (Taken (S.state space.old) (S.state space.new)) }
+    ensures refused { IfErr result (TakeRefused (S.state space.old) (S.state space.new)) }
+    ensures noted { NotesChange (S.state space.old) (S.state space.new) }
 {
     let mut first = first;
+    let free = first.number(FREE_PAGES);
     first.set_number(FIRST_TRUNK, trunk.page.number(NEXT_TRUNK));
-    count_less(&mut first);
+    first.set_number(FREE_PAGES, free.saturating_sub(1));
     write_page(space, 1, first)?;
     Ok(trunk.number)
 }
@@ -100,12 +92,13 @@ fn take_trunk<S: PageSpace>(space: &mut S, first: Page, trunk: TrunkPage) -> Res
 /// Takes the last leaf of the first trunk.
 fn take_leaf<S: PageSpace>(space: &mut S, first: Page, trunk: TrunkPage) -> Result<u32, SpaceFault>
     requires writable { IsWritable (S.state space.old) }
-    requires some { 1 ≤ (S.state space.old).pages.size }
     requires first_holds { ReadsPage (S.state space.old) 1 first }
-    requires trunk_holds { ReadsTrunk (S.state space.old) trunk }
-    requires named { Names first trunk.number }
+    requires trunk_holds { ReadsTrunk (S.state space.old) first trunk }
     requires leaf { 1 ≤ trunk.leaves }
-    ensures { Takes (S.state space.old) (S.state space.new) result }
+    ensures steady { Steady (S.state space.old) (S.state space.new) }
+    ensures taken { IfOk result (Taken (S.state space.old) (S.state space.new)) }
+    ensures refused { IfErr result (TakeRefused (S.state space.old) (S.state space.new)) }
+    ensures noted { NotesChange (S.state space.old) (S.state space.new) }
 {
     let TrunkPage {
         number,
@@ -118,7 +111,8 @@ fn take_leaf<S: PageSpace>(space: &mut S, first: Page, trunk: TrunkPage) -> Resu
     }
     page.set_number(LEAF_COUNT, leaves - 1);
     let mut first = first;
-    count_less(&mut first);
+    let free = first.number(FREE_PAGES);
+    first.set_number(FREE_PAGES, free.saturating_sub(1));
     write_both(space, number, page, first)?;
     Ok(leaf)
 }
@@ -131,18 +125,20 @@ fn give_leaf<S: PageSpace>(
     number: u32,
 ) -> Result<(), SpaceFault>
     requires writable { IsWritable (S.state space.old) }
-    requires some { 1 ≤ (S.state space.old).pages.size }
     requires first_holds { ReadsPage (S.state space.old) 1 first }
-    requires trunk_holds { ReadsTrunk (S.state space.old) trunk }
-    requires named { Names first trunk.number }
+    requires trunk_holds { ReadsTrunk (S.state space.old) first trunk }
     requires room { trunk.leaves < full (S.state space.old).pages.usable }
-    ensures { Gives (S.state space.old) (S.state space.new) number result }
+    ensures steady { Steady (S.state space.old) (S.state space.new) }
+    ensures given { OnOk result (Given (S.state space.old) (S.state space.new) number) }
+    ensures refused { IfErr result (GiveRefused (S.state space.old) (S.state space.new) number) }
+    ensures noted { NotesChange (S.state space.old) (S.state space.new) }
 {
     let mut page = trunk.page;
     page.set_number(LEAF_COUNT, trunk.leaves + 1);
     page.set_number(place_of(trunk.leaves), number);
     let mut first = first;
-    count_more(&mut first);
+    let free = first.number(FREE_PAGES);
+    first.set_number(FREE_PAGES, free.saturating_add(1));
     write_both(space, trunk.number, page, first)
 }
 
@@ -154,19 +150,21 @@ fn give_trunk<S: PageSpace>(
     number: u32,
 ) -> Result<(), SpaceFault>
     requires writable { IsWritable (S.state space.old) }
-    requires some { 1 ≤ (S.state space.old).pages.size }
     requires there { HasPage (S.state space.old).pages number }
     requires first_holds { ReadsPage (S.state space.old) 1 first }
-    requires no_room { IsTrue (S.state space.old).tells → NoRoom (S.state space.old).pages }
-    ensures { Gives (S.state space.old) (S.state space.new) number result }
+    requires head { IsTrue (S.state space.old).tells → HasHead (S.state space.old).pages }
+    requires no_room { IsTrue (S.state space.old).tells → HasNoRoom (S.state space.old).pages }
+    ensures steady { Steady (S.state space.old) (S.state space.new) }
+    ensures given { OnOk result (Given (S.state space.old) (S.state space.new) number) }
+    ensures refused { IfErr result (GiveRefused (S.state space.old) (S.state space.new) number) }
+    ensures noted { NotesChange (S.state space.old) (S.state space.new) }
 {
-    let Ok(mut page) = Page::zeros(alloc, space.page_size() as usize) else {
-        return Err(SpaceFault::Memory);
-    };
+    let mut page = Page::zeros(alloc, space.page_size() as usize)?;
     page.set_number(NEXT_TRUNK, first.number(FIRST_TRUNK));
     let mut first = first;
+    let free = first.number(FREE_PAGES);
     first.set_number(FIRST_TRUNK, number);
-    count_more(&mut first);
+    first.set_number(FREE_PAGES, free.saturating_add(1));
     write_both(space, number, page, first)
 }
 
@@ -175,22 +173,4 @@ fn place_of(leaf: u32) -> usize
     ensures { result ≡ 8 + 4 * leaf }
 {
     LEAVES + 4 * leaf as usize
-}
-
-/// Counts one free page fewer, or none still.
-fn count_less(first: &mut Page)
-    requires { 40 ≤ length first.old }
-    ensures { Sets first.old first.new 36 (number_in first.old 36 - 1) }
-{
-    let count = first.number(FREE_PAGES);
-    first.set_number(FREE_PAGES, count.saturating_sub(1));
-}
-
-/// Counts one free page more, or the greatest count still.
-fn count_more(first: &mut Page)
-    requires { 40 ≤ length first.old }
-    ensures { Sets first.old first.new 36 (min (number_in first.old 36 + 1) 4294967295) }
-{
-    let count = first.number(FREE_PAGES);
-    first.set_number(FREE_PAGES, count.saturating_add(1));
 }

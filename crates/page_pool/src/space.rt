@@ -29,7 +29,8 @@ pub trait PageSpace: Drop {
     /// How many pages there are.
     fn size(&self) -> u32
         requires ready { IsReady (state self.now) }
-        ensures value { result ≡ (state self.now).pages.size };
+        ensures value { result ≡ (state self.now).pages.size }
+        ensures sizes { HasSizes (state self.now) };
 
     /// Reads a page, from 1 to the size, into a buffer of one page.
     ///

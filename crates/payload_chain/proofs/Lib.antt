@@ -1,6 +1,8 @@
-pub mod ListLemmas
+pub mod StateLemmas
+pub mod CountLemmas
 pub mod WalkLemmas
-pub mod FreelistLemmas
 pub mod GiveLemmas
+pub mod ReadLemmas
 pub mod TakeLemmas
 pub mod PutLemmas
+pub mod LawLemmas

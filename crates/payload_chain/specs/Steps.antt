@@ -1,22 +1,26 @@
 -- Words for the steps inside the crate; no contract of a function that it shows to others needs them.
-use Rattle.std.specs.Prelude.{◌≡◌, ◌⊎◌, ℕ, ◌+◌, ◌-◌, ◌*◌, ◌≤◌, ◌<◌, nat_lt, List, [], ◌∷◌, ◌++◌, length, take, Some, IsTrue}
-use Rattle.std.specs.List.{flat_map}
+use Rattle.std.specs.Prelude.{◌≡◌, ◌⊎◌, ℕ, ◌≤◌, nat_lt, List, [], ◌∷◌, ◌++◌, length, Some, IsTrue}
 use Rattle.std.specs.Ordering.{nat_cmp}
 use Rattle.std.specs.BTreeSet.{BTreeSet, contains}
-use Rattle.page_list.specs.Pages.{Pages, HasPage, IsGood, Among, times, number_in}
-use Rattle.page_list.specs.Freelist.{first_trunk}
-use Rattle.page_list.specs.Chain.{HasWalked, IsChain, holder, piece}
-use Rattle.page_pool.specs.Space.{SpaceState, PagesStay, Stays, Rose}
-use Rattle.page_pool.specs.Pool.{NoTrunk, BadTrunk, NoLeaf, TakeAsks, GiveAsks, OnlyTwo, OnlyThree}
-use Rattle.db_format.specs.Header.{greatest_length}
+use Rattle.byte_base.specs.Count.{Rose}
+use Rattle.byte_base.specs.Numbers.{number_at}
+use Rattle.page_list.specs.Pages.{Pages, HasPage, IsGood, Among, times}
+use Rattle.page_list.specs.Chain.{IsChain, pages_needed}
+use Rattle.page_list.specs.Edits.{taken_numbers}
+use Rattle.page_pool.specs.Space.{SpaceState, Steady}
+use Rattle.page_pool.specs.Pool.{GiveRefused}
 use Rattle.db_format.specs.declared.fault.SpaceFault.{SpaceFault}
 use Rattle.db_format.specs.declared.fault.SpaceFault.TheVariants.{Failed, Memory, Bad, Corrupt, Large}
-use Rattle.payload_chain.specs.Chains.{AfterGives, AfterTakes}
+use Rattle.payload_chain.specs.Chains.{Midway, midway, GaveEach, TookEach, StopsTaking, PutRefused, OnlyThese, with_chain, first_of}
 use Rattle.payload_chain.specs.declared.walk.Walk.{Walk}
 
 -- the set has the numbers of the list
 pub record HasMet (met : BTreeSet ℕ) (numbers : List ℕ) : Type 0 where
   pub each : (number : ℕ) → contains nat_cmp met number ≡ nat_lt 0 (times number numbers)
+
+-- each of the numbers is a page's
+pub record HasEach (pages : Pages) (numbers : List ℕ) : Type 0 where
+  pub each : (number : ℕ) → Among numbers number → HasPage pages number
 
 -- a walk that begins
 pub record Begins (walk : Walk) (first : ℕ) : Type 0 where
@@ -30,7 +34,7 @@ pub record StepsOn (s : SpaceState) (walk after : Walk) (page : List ℕ) : Type
   pub numbers_grow : after.numbers.items ≡ walk.numbers.items ++ walk.next ∷ []
   pub met_too : HasMet after.met after.numbers.items
   pub holds : after.holder ≡ walk.next
-  pub next_is : after.next ≡ number_in page 0
+  pub next_is : after.next ≡ number_at 4 page 0
   pub there : HasPage s.pages walk.next
   pub again : ¬ (Among walk.numbers.items walk.next)
   pub one_page : length page ≡ s.page_size
@@ -39,7 +43,7 @@ pub record StepsOn (s : SpaceState) (walk after : Walk) (page : List ℕ) : Type
 
 -- why it could not
 abbrev pub StepRefused : SpaceState → SpaceState → Walk → SpaceFault → Type 0
-StepRefused old new walk Failed = Rose old new
+StepRefused old new walk Failed = Rose old.faults new.faults
 StepRefused old new walk Memory = Unit {0}
 StepRefused old new walk (Bad page kept found) =
     (page ≡ walk.next) × HasPage old.pages page × ¬ (Among walk.numbers.items page) × (IsTrue old.tells → old.pages.bad page ≡ Some (kept, found))
@@ -47,81 +51,56 @@ StepRefused old new walk (Corrupt page) =
     (¬ (HasPage old.pages walk.next) × (page ≡ walk.holder)) ⊎ (Among walk.numbers.items walk.next × (page ≡ walk.next))
 StepRefused old new walk (Large pages) = ⊥
 
--- a walk from a first page has come over these pages, all of them full, the last one and the next
-pub record HasCome (pages : Pages) (first : ℕ) (numbers : List ℕ) (last next : ℕ) : Type 0 where
-  pub walked : HasWalked pages first numbers next
-  pub held : last ≡ holder first numbers
-  pub full : length (flat_map (piece pages) numbers) ≡ (pages.usable - 4) * length numbers
+-- bytes were put behind those that were there
+pub record IsBehind (before after : List ℕ) : Type 0 where
+  pub more : List ℕ
+  pub behind : after ≡ before ++ more
 
--- the pieces of the pages stand behind the bytes before, as far as they are of the chain, and so many bytes are left
-pub record HasRead (pages : Pages) (len left : ℕ) (numbers before after : List ℕ) : Type 0 where
-  pub bytes_left : left ≡ len - (pages.usable - 4) * length numbers
-  pub bytes_are : after ≡ before ++ take len (flat_map (piece pages) numbers)
-
--- the chain of so many bytes has these pages
-pub record HasPages (pages : Pages) (first len : ℕ) (numbers : List ℕ) : Type 0 where
+-- as many pages as the chain of so many bytes needs, all there; where it is told, they are the chain's
+pub record HasPages (s : SpaceState) (first len : ℕ) (numbers : List ℕ) : Type 0 where
+  pub there : HasEach s.pages numbers
+  pub enough : length numbers ≡ pages_needed s.pages.usable len
   pub payload : List ℕ
-  pub chain : IsChain pages first numbers payload
   pub long : length payload ≡ len
+  pub chain : IsTrue s.tells → IsChain s.pages first numbers payload
 
--- each of the numbers is a page's
-pub record HasEach (pages : Pages) (numbers : List ℕ) : Type 0 where
-  pub each : (number : ℕ) → Among numbers number → HasPage pages number
+-- all of these pages were given
+pub record GaveAll (old new : SpaceState) (numbers : List ℕ) : Type 0 where
+  pub gave : GaveEach old new numbers
+  pub change : 1 ≤ length numbers → IsTrue new.changed
 
--- some of these pages were given, and this was so when the next was to be given
-pub record GiveStops (old : Pages) (numbers : List ℕ) (Why : Pages → ℕ → Type 0) : Type 0 where
+-- some of these pages were given, and the next was refused
+pub record StopsGiving (old new : SpaceState) (numbers : List ℕ) (fault : SpaceFault) : Type 0 where
   pub given : List ℕ
   pub number : ℕ
   pub more : List ℕ
   pub are : numbers ≡ given ++ number ∷ more
-  pub met : Pages
-  pub gave : AfterGives old given met
-  pub why : Why met number
+  pub met : Midway
+  pub gave : GaveEach old (midway old met) given
+  pub refused : GiveRefused (midway old met) new number fault
 
-abbrev pub GiveRefused : SpaceState → SpaceState → List ℕ → SpaceFault → Type 0
-GiveRefused old new numbers Failed = Rose old new
-GiveRefused old new numbers Memory = Unit {0}
-GiveRefused old new numbers (Bad page kept found) =
-    IsTrue old.tells → GiveStops old.pages numbers
-    (λ met number. GiveAsks met number page × (met.bad page ≡ Some (kept, found)) × PagesStay met new.pages)
-GiveRefused old new numbers (Corrupt page) =
-    IsTrue old.tells → GiveStops old.pages numbers (λ met number. (NoTrunk met page ⊎ BadTrunk met page) × PagesStay met new.pages)
-GiveRefused old new numbers (Large pages) = ⊥
+-- these pages were taken, as many as that
+pub record TookThese (old new : SpaceState) (count : ℕ) (numbers : List ℕ) : Type 0 where
+  pub took : TookEach old new count
+  pub many : length numbers ≡ count
+  pub there : HasEach new.pages numbers
+  pub are : IsTrue old.tells → numbers ≡ taken_numbers old.page_size count old.pages
 
--- and what it leaves
-abbrev pub GiveLeaves : Pages → Pages → List ℕ → Type 0
-GiveLeaves old new numbers = GiveStops old numbers (λ met number. OnlyThree met new 1 (first_trunk met) number)
+-- fewer were taken, and the next was refused; or there was no memory to note the last one
+abbrev pub TakingStops : SpaceState → SpaceState → ℕ → SpaceFault → Type 0
+TakingStops old new count fault = StopsTaking old new count fault ⊎ (TookEach old new count × (fault ≡ Memory))
 
--- fewer pages than these were taken, and this was so when the next was to be taken, which changed nothing
-pub record TakeStops (old new : SpaceState) (count : ℕ) (Why : Pages → Type 0) : Type 0 where
-  pub taken : List ℕ
-  pub met : SpaceState
-  pub took : AfterTakes old taken met
-  pub fewer : length taken < count
-  pub still : Stays met new
-  pub why : Why met.pages
+-- the bytes were put to these pages, none of which was bad
+pub record PutEach (old new : SpaceState) (numbers rest : List ℕ) (first : ℕ) : Type 0 where
+  pub steady : Steady old new
+  pub size : new.pages.size ≡ old.pages.size
+  pub change : IsTrue new.changed
+  pub is : first ≡ first_of numbers
+  pub good : IsTrue old.tells → (number : ℕ) → Among numbers number → IsGood old.pages number
+  pub pages_are : IsTrue old.tells → new.pages ≡ with_chain old.page_size numbers rest old.pages
 
-abbrev pub TakeRefused : SpaceState → SpaceState → ℕ → SpaceFault → Type 0
-TakeRefused old new count Failed = Rose old new
-TakeRefused old new count Memory = Unit {0}
-TakeRefused old new count (Bad page kept found) =
-    IsTrue old.tells → TakeStops old new count (λ met. TakeAsks met page × (met.bad page ≡ Some (kept, found)))
-TakeRefused old new count (Corrupt page) = IsTrue old.tells → TakeStops old new count (λ met. NoTrunk met page ⊎ (BadTrunk met page ⊎ NoLeaf met page))
-TakeRefused old new count (Large pages) =
-    (old.pages.size < pages) × (greatest_length < pages * old.page_size) × (pages ≡ new.pages.size + 1)
-    × (IsTrue old.tells → TakeStops old new count (λ met. IsGood met 1 × (first_trunk met ≡ 0)))
-
--- no more pages than these were taken, and of taking the next no page but page 1 and the first trunk has changed
-pub record TakeLeaves (old new : SpaceState) (count : ℕ) : Type 0 where
-  pub taken : List ℕ
-  pub met : SpaceState
-  pub took : AfterTakes old taken met
-  pub no_more : length taken ≤ count
-  pub only : OnlyTwo met.pages new.pages 1 (first_trunk met.pages)
-
-abbrev pub PutRefused : SpaceState → SpaceState → List ℕ → SpaceFault → Type 0
-PutRefused old new numbers Failed = Rose old new
-PutRefused old new numbers Memory = Unit {0}
-PutRefused old new numbers (Bad page kept found) = Among numbers page × (IsTrue old.tells → old.pages.bad page ≡ Some (kept, found))
-PutRefused old new numbers (Corrupt page) = ⊥
-PutRefused old new numbers (Large pages) = ⊥
+-- one of these pages could not be put, and no other has changed
+pub record StopsPuttingEach (old new : SpaceState) (numbers : List ℕ) (fault : SpaceFault) : Type 0 where
+  pub size : new.pages.size ≡ old.pages.size
+  pub only : IsTrue old.tells → OnlyThese old.pages new.pages numbers
+  pub refused : PutRefused old new numbers fault

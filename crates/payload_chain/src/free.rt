@@ -1,14 +1,12 @@
 //! A chain, given back.
 
-ghost use Rattle.std.specs.Prelude.{◌≡◌, ℕ, ◌+◌, ◌≤◌, length, IsTrue, IfOk, IfErr, OnOk, OnErr};
-ghost use Rattle.page_list.specs.Pages.{HasPage, Among};
-ghost use Rattle.page_list.specs.Chain.{pages_needed};
+ghost use Rattle.std.specs.Prelude.{IfOk, IfErr, OnOk};
 ghost use Rattle.page_pool.specs.Space.{IsReady, IsWritable, HasSizes, Steady, Stays};
 ghost use Rattle.page_pool.specs.Pool.{NotesChange};
-ghost use Rattle.payload_chain.specs.Chains.{ReadRefused, Freed, FreeRefused, FreeLeaves, AfterGives};
-ghost use Rattle.payload_chain.specs.Steps.{HasPages, HasEach, GiveRefused, GiveLeaves};
+ghost use Rattle.payload_chain.specs.Chains.{ReadRefused, Freed, FreeRefused};
+ghost use Rattle.payload_chain.specs.Steps.{HasPages, HasEach, GaveAll, StopsGiving};
 
-use crate::walk::{Walk, page_buffer, room};
+use crate::walk::{Walk, page_buffer, pages_needed};
 use page_pool::{PageSpace, SpaceFault, give_page};
 use std::alloc::Global;
 
@@ -26,11 +24,8 @@ pub fn free_chain<S: PageSpace>(
 ) -> Result<(), SpaceFault>
     requires writable { IsWritable (S.state space.old) }
     ensures steady { Steady (S.state space.old) (S.state space.new) }
-    ensures size { (S.state space.new).pages.size ≡ (S.state space.old).pages.size }
-    ensures cause { IfErr result (FreeRefused (S.state space.old) (S.state space.new) first len) }
-    ensures freed { IsTrue (S.state space.old).tells → OnOk result (Freed (S.state space.old).pages (S.state space.new).pages first len) }
-    ensures leaves { IsTrue (S.state space.old).tells → OnErr result (FreeLeaves (S.state space.old).pages (S.state space.new).pages first len) }
-    ensures changed { 1 ≤ len → OnOk result (IsTrue (S.state space.new).changed) }
+    ensures freed { OnOk result (Freed (S.state space.old) (S.state space.new) first len) }
+    ensures refused { IfErr result (FreeRefused (S.state space.old) (S.state space.new) first len) }
     ensures noted { NotesChange (S.state space.old) (S.state space.new) }
 {
     let numbers = chain_pages(alloc, space, first, len)?;
@@ -48,15 +43,12 @@ fn chain_pages<S: PageSpace>(
     ensures steady { Steady (S.state space.old) (S.state space.new) }
     ensures stays { Stays (S.state space.old) (S.state space.new) }
     ensures cause { IfErr result (ReadRefused (S.state space.old) (S.state space.new) first len) }
-    ensures pages { IfOk result (λ numbers. IsTrue (S.state space.old).tells → HasPages (S.state space.old).pages first len numbers.items) }
-    ensures there { IfOk result (λ numbers. HasEach (S.state space.old).pages numbers.items) }
-    ensures enough { IfOk result (λ numbers. length numbers.items ≡ pages_needed (S.state space.old).pages.usable len) }
-    ensures sizes { OnOk result (HasSizes (S.state space.old)) }
+    ensures pages { IfOk result (λ numbers. HasPages (S.state space.old) first len numbers.items) }
 {
-    let room = u64::from(room(space));
+    let needed = pages_needed(space, len);
     let mut page = page_buffer(alloc, space)?;
     let mut walk = Walk::new(alloc, first);
-    for _ in 0..len.div_ceil(room) {
+    for _ in 0..needed {
         walk.step(space, &mut page)?;
     }
     walk.finish()
@@ -65,13 +57,11 @@ fn chain_pages<S: PageSpace>(
 /// Gives pages to the freelist, one after the other.
 fn give_pages<S: PageSpace>(alloc: Global, space: &mut S, numbers: &[u32]) -> Result<(), SpaceFault>
     requires writable { IsWritable (S.state space.old) }
+    requires sizes { HasSizes (S.state space.old) }
     requires there { HasEach (S.state space.old).pages numbers.now }
     ensures steady { Steady (S.state space.old) (S.state space.new) }
-    ensures size { (S.state space.new).pages.size ≡ (S.state space.old).pages.size }
-    ensures cause { IfErr result (GiveRefused (S.state space.old) (S.state space.new) numbers.now) }
-    ensures gave { IsTrue (S.state space.old).tells → OnOk result (AfterGives (S.state space.old).pages numbers.now (S.state space.new).pages) }
-    ensures leaves { IsTrue (S.state space.old).tells → OnErr result (GiveLeaves (S.state space.old).pages (S.state space.new).pages numbers.now) }
-    ensures changed { 1 ≤ length numbers.now → OnOk result (IsTrue (S.state space.new).changed) }
+    ensures gave { OnOk result (GaveAll (S.state space.old) (S.state space.new) numbers.now) }
+    ensures refused { IfErr result (StopsGiving (S.state space.old) (S.state space.new) numbers.now) }
     ensures noted { NotesChange (S.state space.old) (S.state space.new) }
 {
     for number in numbers {

@@ -8,7 +8,7 @@
 #![tactic(auto)]
 
 mod free;
-mod law;
+mod laws;
 mod read;
 #[cfg(test)]
 mod tests;
@@ -17,6 +17,6 @@ mod write;
 
 pub use db_format::local_size;
 pub use free::free_chain;
-pub use law::written_comes_back;
+pub use laws::{chain_written, written_comes_back};
 pub use read::read_chain;
 pub use write::write_chain;

@@ -3,10 +3,10 @@
 ghost use Rattle.std.specs.Prelude.{◌≡◌, ℕ, ◌+◌, ◌-◌, ◌*◌, ◌≤◌, ◌<◌, ◌++◌, length, take, drop, min, IsTrue, IfOk, IfErr, OnOk, OnErr};
 ghost use Rattle.page_pool.specs.Space.{IsReady, HasSizes, Steady, Stays};
 ghost use Rattle.payload_chain.specs.Chains.{Found, ReadRefused};
-ghost use Rattle.payload_chain.specs.Steps.{HasMet, StepsOn, StepRefused};
+ghost use Rattle.payload_chain.specs.Steps.{HasMet, StepsOn, StepRefused, IsBehind};
 
-use crate::walk::{Walk, page_buffer, room};
-use db_format::Bytes;
+use crate::walk::{Walk, page_buffer, pages_needed, room};
+use byte_base::Bytes;
 use page_pool::{PageSpace, SpaceFault};
 use std::alloc::Global;
 
@@ -54,13 +54,13 @@ fn read_pages<S: PageSpace>(
     ensures cause { IfErr result (ReadRefused (S.state space.old) (S.state space.new) first len) }
     ensures found { IsTrue (S.state space.old).tells → OnOk result (Found (S.state space.old).pages first len out.old out.new) }
     ensures long { OnOk result (length out.new ≡ length out.old + len) }
-    ensures kept { take (length out.old) out.new ≡ out.old }
+    ensures kept { IsBehind out.old out.new }
 {
-    let room = u64::from(room(space));
+    let needed = pages_needed(space, len);
     let mut page = page_buffer(alloc, space)?;
     let mut walk = Walk::new(alloc, first);
     let mut left = len;
-    for _ in 0..len.div_ceil(room) {
+    for _ in 0..needed {
         left = read_page(space, &mut walk, &mut page, left, out)?;
     }
     let _numbers = walk.finish()?;
@@ -91,8 +91,6 @@ fn read_page<S: PageSpace>(
     walk.step(space, page)?;
     let count = left.min(u64::from(room(space)));
     let end = 4 + count as usize;
-    match out.extend_from_slice(&page[4..end]) {
-        Ok(()) => Ok(left - count),
-        Err(_) => Err(SpaceFault::Memory),
-    }
+    out.extend_from_slice(&page[4..end])?;
+    Ok(left - count)
 }

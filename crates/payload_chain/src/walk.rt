@@ -1,10 +1,11 @@
 //! A walk along a chain, which reading and freeing share.
 
 ghost use Rattle.std.specs.Prelude.{◌≡◌, ◌≢◌, ℕ, ◌-◌, ◌≤◌, ◌<◌, length, IsTrue, IfOk, IfErr, OnOk};
+ghost use Rattle.page_list.specs.Chain.{pages_needed};
 ghost use Rattle.page_pool.specs.Space.{IsReady, HasSizes, Steady, Stays};
 ghost use Rattle.payload_chain.specs.Steps.{HasMet, Begins, StepsOn, StepRefused};
 
-use byteorder::{BigEndian, ByteOrder};
+use byte_base::u32_at;
 use page_pool::{PageSpace, SpaceFault};
 use std::alloc::Global;
 use std::collections::BTreeSet;
@@ -50,24 +51,19 @@ impl Walk {
         if number == 0 || space.size() < number {
             return Err(SpaceFault::Corrupt { page: self.holder });
         }
-        match self.met.insert(number) {
-            Ok(true) => {}
-            Ok(false) => return Err(SpaceFault::Corrupt { page: number }),
-            Err(_) => return Err(SpaceFault::Memory),
+        if !self.met.insert(number)? {
+            return Err(SpaceFault::Corrupt { page: number });
         }
         space.get(number, page)?;
-        if self.numbers.push(number).is_err() {
-            return Err(SpaceFault::Memory);
-        }
+        self.numbers.push(number)?;
         self.holder = number;
-        self.next = BigEndian::read_u32(page);
+        self.next = u32_at(page, 0);
         Ok(())
     }
 
     /// The pages of the walk, where the chain ends here.
     pub fn finish(self) -> Result<Vec<u32>, SpaceFault>
-        ensures ends { OnOk result (self.next ≡ 0) }
-        ensures pages { IfOk result (λ numbers. numbers.items ≡ self.numbers.items) }
+        ensures pages { IfOk result (λ numbers. (numbers.items ≡ self.numbers.items) × (self.next ≡ 0)) }
         ensures cause { IfErr result (λ fault. (fault ≡ SpaceFault.Corrupt self.holder) × (self.next ≢ 0)) }
     {
         let Walk {
@@ -92,14 +88,20 @@ pub fn room<S: PageSpace>(space: &S) -> u32
     space.usable() - 4
 }
 
+/// How many pages a chain of so many bytes has.
+pub fn pages_needed<S: PageSpace>(space: &S, len: u64) -> u64
+    requires ready { IsReady (S.state space.now) }
+    ensures value { result ≡ pages_needed (S.state space.now).pages.usable len }
+    ensures sizes { HasSizes (S.state space.now) }
+{
+    len.div_ceil(u64::from(room(space)))
+}
+
 /// A buffer of one page, of zeros.
 pub fn page_buffer<S: PageSpace>(alloc: Global, space: &S) -> Result<Vec<u8>, SpaceFault>
     requires ready { IsReady (S.state space.now) }
     ensures one_page { IfOk result (λ page. length page.items ≡ (S.state space.now).page_size) }
     ensures cause { IfErr result (λ fault. fault ≡ SpaceFault.Memory) }
 {
-    match vec![in alloc; 0u8; space.page_size() as usize] {
-        Ok(page) => Ok(page),
-        Err(_) => Err(SpaceFault::Memory),
-    }
+    Ok(vec![in alloc; 0u8; space.page_size() as usize]?)
 }

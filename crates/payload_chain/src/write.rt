@@ -1,16 +1,15 @@
 //! A chain, written.
 
-ghost use Rattle.std.specs.Prelude.{◌≡◌, ℕ, ◌+◌, ◌-◌, ◌*◌, ◌^◌, ◌≤◌, ◌<◌, ◌++◌, length, replicate, IsTrue, IfOk, IfErr, OnOk, OnErr};
-ghost use Rattle.byteorder.specs.Endian.{big_bytes};
-ghost use Rattle.page_list.specs.Pages.{HasPage, Among, AllDifferent};
+ghost use Rattle.std.specs.Prelude.{◌≡◌, ◌+◌, ◌≤◌, length, IfOk, IfErr};
+ghost use Rattle.page_list.specs.Pages.{HasPage};
 ghost use Rattle.page_list.specs.Chain.{pages_needed};
-ghost use Rattle.page_pool.specs.Space.{IsReady, IsWritable, Steady, Stays};
+ghost use Rattle.page_pool.specs.Space.{IsWritable, HasSizes, Steady, PageCause, PutLeaves};
 ghost use Rattle.page_pool.specs.Pool.{NotesChange};
-ghost use Rattle.payload_chain.specs.Chains.{AfterTakes, Wrote, IsWritten, WriteRefused, WriteLeaves, OnlyThese};
-ghost use Rattle.payload_chain.specs.Steps.{HasEach, TakeRefused, TakeLeaves, PutRefused};
+ghost use Rattle.payload_chain.specs.Chains.{Wrote, WriteRefused, chain_page};
+ghost use Rattle.payload_chain.specs.Steps.{HasEach, TookThese, TakingStops, PutEach, StopsPuttingEach};
 
-use crate::walk::{page_buffer, room};
-use byteorder::{BigEndian, ByteOrder};
+use crate::walk::{page_buffer, pages_needed, room};
+use byte_base::put_u32;
 use page_pool::{PageSpace, SpaceFault, take_page};
 use std::alloc::Global;
 
@@ -28,16 +27,12 @@ pub fn write_chain<S: PageSpace>(
     requires some { 1 ≤ (S.state space.old).pages.size }
     requires bytes { 1 ≤ length rest.now }
     ensures steady { Steady (S.state space.old) (S.state space.new) }
-    ensures no_fewer { (S.state space.old).pages.size ≤ (S.state space.new).pages.size }
-    ensures cause { IfErr result (WriteRefused (S.state space.old) (S.state space.new) (length rest.now)) }
-    ensures wrote { IsTrue (S.state space.old).tells → IfOk result (λ first. Wrote (S.state space.old) (S.state space.new) first rest.now) }
-    ensures within { IfOk result (HasPage (S.state space.new).pages) }
-    ensures leaves { IsTrue (S.state space.old).tells → OnErr result (WriteLeaves (S.state space.old) (S.state space.new) (length rest.now)) }
-    ensures changed { OnOk result (IsTrue (S.state space.new).changed) }
+    ensures wrote { IfOk result (λ first. Wrote (S.state space.old) (S.state space.new) first rest.now) }
+    ensures refused { IfErr result (WriteRefused (S.state space.old) (S.state space.new) rest.now) }
     ensures noted { NotesChange (S.state space.old) (S.state space.new) }
 {
-    let needed = rest.len().div_ceil(room(space) as usize);
-    let numbers = take_pages(alloc, space, needed)?;
+    let needed = pages_needed(space, rest.len() as u64);
+    let numbers = take_pages(alloc, space, needed as usize)?;
     put_pages(alloc, space, numbers, rest)
 }
 
@@ -49,21 +44,16 @@ fn take_pages<S: PageSpace>(
 ) -> Result<Vec<u32>, SpaceFault>
     requires writable { IsWritable (S.state space.old) }
     requires some { 1 ≤ (S.state space.old).pages.size }
+    requires sizes { HasSizes (S.state space.old) }
     ensures steady { Steady (S.state space.old) (S.state space.new) }
-    ensures no_fewer { (S.state space.old).pages.size ≤ (S.state space.new).pages.size }
-    ensures cause { IfErr result (TakeRefused (S.state space.old) (S.state space.new) count) }
-    ensures count { IfOk result (λ numbers. length numbers.items ≡ count) }
-    ensures there { IfOk result (λ numbers. HasEach (S.state space.new).pages numbers.items) }
-    ensures took { IsTrue (S.state space.old).tells → IfOk result (λ numbers. AfterTakes (S.state space.old) numbers.items (S.state space.new)) }
-    ensures leaves { IsTrue (S.state space.old).tells → OnErr result (TakeLeaves (S.state space.old) (S.state space.new) count) }
+    ensures took { IfOk result (λ numbers. TookThese (S.state space.old) (S.state space.new) count numbers.items) }
+    ensures refused { IfErr result (TakingStops (S.state space.old) (S.state space.new) count) }
     ensures noted { NotesChange (S.state space.old) (S.state space.new) }
 {
     let mut numbers = Vec::new(alloc);
     for _ in 0..count {
         let number = take_page(alloc, space)?;
-        if numbers.push(number).is_err() {
-            return Err(SpaceFault::Memory);
-        }
+        numbers.push(number)?;
     }
     Ok(numbers)
 }
@@ -81,12 +71,8 @@ fn put_pages<S: PageSpace>(
     requires bytes { 1 ≤ length rest.now }
     requires enough { length numbers.items ≡ pages_needed (S.state space.old).pages.usable (length rest.now) }
     ensures steady { Steady (S.state space.old) (S.state space.new) }
-    ensures size { (S.state space.new).pages.size ≡ (S.state space.old).pages.size }
-    ensures cause { IfErr result (PutRefused (S.state space.old) (S.state space.new) numbers.items) }
-    ensures others { IsTrue (S.state space.old).tells → OnlyThese (S.state space.old).pages (S.state space.new).pages numbers.items }
-    ensures put { IsTrue (S.state space.old).tells → AllDifferent numbers.items → IfOk result (λ first. IsWritten (S.state space.new).pages first numbers.items rest.now) }
-    ensures one { IfOk result (Among numbers.items) }
-    ensures changed { OnOk result (IsTrue (S.state space.new).changed) }
+    ensures put { IfOk result (PutEach (S.state space.old) (S.state space.new) numbers.items rest.now) }
+    ensures refused { IfErr result (StopsPuttingEach (S.state space.old) (S.state space.new) numbers.items) }
     ensures noted { NotesChange (S.state space.old) (S.state space.new) }
 {
     let room = room(space) as usize;
@@ -96,21 +82,40 @@ fn put_pages<S: PageSpace>(
     let mut end = rest.len();
     while let Some(number) = numbers.pop() {
         let start = numbers.len() * room;
-        fill_page(&mut page, next, &rest[start..end]);
-        space.put(number, &page)?;
+        put_piece(space, &mut page, number, next, &rest[start..end])?;
         next = number;
         end = start;
     }
     Ok(next)
 }
 
+/// Puts bytes to a page of a chain, by a buffer of one page.
+fn put_piece<S: PageSpace>(
+    space: &mut S,
+    page: &mut [u8],
+    number: u32,
+    next: u32,
+    bytes: &[u8],
+) -> Result<(), SpaceFault>
+    requires writable { IsWritable (S.state space.old) }
+    requires sizes { HasSizes (S.state space.old) }
+    requires there { HasPage (S.state space.old).pages number }
+    requires one_page { length page.old ≡ (S.state space.old).page_size }
+    requires few { 4 + length bytes.now ≤ (S.state space.old).pages.usable }
+    ensures steady { Steady (S.state space.old) (S.state space.new) }
+    ensures cause { PageCause (S.state space.old) (S.state space.new) number result }
+    ensures leaves { PutLeaves (S.state space.old) (S.state space.new) number (chain_page (S.state space.old).page_size next bytes.now) result }
+{
+    fill_page(page, next, bytes);
+    space.put(number, page)
+}
+
 /// A page of a chain: the number of the next, some bytes, and zeros behind them.
 fn fill_page(page: &mut [u8], next: u32, bytes: &[u8])
     requires { 4 + length bytes.now ≤ length page.old }
-    ensures filled { page.new ≡ big_bytes 4 next ++ (bytes.now ++ replicate (length page.old - (4 + length bytes.now)) 0) }
-    ensures fits { next < 256 ^ 4 }
+    ensures { page.new ≡ chain_page (length page.old) next bytes.now }
 {
     page.fill(0);
     page[4..4 + bytes.len()].copy_from_slice(bytes);
-    BigEndian::write_u32(page, next);
+    put_u32(page, 0, next);
 }

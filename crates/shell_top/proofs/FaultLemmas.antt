@@ -1,5 +1,5 @@
 use Rattle.std.proofs.Common.{◌≡◌, ℕ, ◌+◌, ◌≤◌, min, List, [], ◌∷◌, arith, ap}
-use Rattle.vfs_trait.specs.Count.{last_count}
+use Rattle.byte_base.specs.Count.{last_count}
 use Rattle.vfs_trait.specs.State.{StackState}
 use Rattle.shell_top.specs.Faults.{faults_in, fault_count, FaultsCounted}
 use Rattle.shell_top.specs.Machine.{Machine, Opens, Step, Run}

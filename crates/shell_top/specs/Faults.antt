@@ -1,6 +1,6 @@
 -- As many `fault` replies as a run has, so often did the device fail.
 use Rattle.std.specs.Prelude.{ℕ, ◌+◌, ◌≤◌, min, List, [], ◌∷◌}
-use Rattle.vfs_trait.specs.Count.{last_count}
+use Rattle.byte_base.specs.Count.{last_count}
 use Rattle.vfs_trait.specs.State.{StackState}
 use Rattle.shell_top.specs.Machine.{Machine, Opens, Run}
 use Rattle.shell_top.specs.declared.reply.Reply.{Reply}

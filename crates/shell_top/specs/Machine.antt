@@ -2,7 +2,7 @@
 use Rattle.std.specs.Prelude.{◌≡◌, ◌≢◌, ℕ, ℤ, ◌≤◌, ◌<◌, Bool, true, false, List, [], ◌∷◌, length, IsTrue, None, IsSome, if◌then◌else◌}
 use Rattle.std.specs.FinMap as map
 use Rattle.vfs_model.specs.File.{Found}
-use Rattle.vfs_trait.specs.Count.{Rose}
+use Rattle.byte_base.specs.Count.{Rose}
 use Rattle.vfs_trait.specs.State.{StackState}
 use Rattle.shell_top.specs.Line.{IsPut, IsBad}
 use Rattle.shell_top.specs.Rows.{Texts}

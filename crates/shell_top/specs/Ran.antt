@@ -1,6 +1,6 @@
 -- What a whole run of the shell does, by its status.
 use Rattle.std.specs.Prelude.{◌≡◌, ◌≢◌, ℕ, ◌≤◌, ◌<◌, true, false, List, [], ◌∷◌, ◌++◌, length, IsTrue}
-use Rattle.vfs_trait.specs.Count.{Rose}
+use Rattle.byte_base.specs.Count.{Rose}
 use Rattle.vfs_trait.specs.State.{StackState}
 use Rattle.shell_top.specs.Ends.{SourceState, SinkState}
 use Rattle.shell_top.specs.Line.{Cuts, last_line}

@@ -1,7 +1,7 @@
 -- How the machine stands in a session and its stack.
 use Rattle.std.specs.Prelude.{◌≡◌, ◌≢◌, ℕ, ◌≤◌, true, false, List, [], length, IsTrue, Option, Some, None, Result, Ok, Err}
 use Rattle.std.specs.FinMap as map
-use Rattle.vfs_trait.specs.Count.{Rose}
+use Rattle.byte_base.specs.Count.{Rose}
 use Rattle.vfs_trait.specs.State.{StackState, NoneOpen, IsOpen, file_at}
 use Rattle.vfs_trait.specs.declared.fault.VfsFault.{VfsFault}
 use Rattle.vfs_trait.specs.declared.fault.VfsFault.TheVariants.{Failed, Memory as NoMemory, Busy, Full, BadPage}

@@ -1,7 +1,7 @@
 //! The two ends of a session: where its lines come from, and where its replies go.
 
 ghost use Rattle.std.specs.Prelude.{◌≡◌, ℕ, ◌≤◌, [], ◌+◌, ◌-◌, ◌++◌, length, take, drop, min, IsTrue, IfOk, OnErr, IsErrOf};
-ghost use Rattle.vfs_trait.specs.Count.{Rose};
+ghost use Rattle.byte_base.specs.Count.{Rose};
 ghost use Rattle.shell_top.specs.Ends.{SourceState, SinkState, SourceSteady, SinkSteady, Gives, Takes};
 
 use std::alloc::Global;

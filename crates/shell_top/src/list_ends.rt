@@ -1,7 +1,7 @@
 //! Ends in memory that fail at the calls, and move only so much, as they are told to.
 
 ghost use Rattle.std.specs.Prelude.{◌≡◌, ℕ, ◌≤◌, [], length, IfNone, OnSome};
-ghost use Rattle.vfs_trait.specs.Count.{Rose};
+ghost use Rattle.byte_base.specs.Count.{Rose};
 
 use crate::ends::{ReadFailed, Sink, SinkFault, Source, move_from};
 use std::alloc::Global;

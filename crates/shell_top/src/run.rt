@@ -1,7 +1,7 @@
 //! The run: lines from the source, each answered into the sink before the next is read.
 
 ghost use Rattle.std.specs.Prelude.{◌≡◌, ℕ, ◌+◌, ◌*◌, ◌^◌, ◌≤◌, List, [], ◌∷◌, length, OnOk, OnErr, IsErrOf};
-ghost use Rattle.vfs_trait.specs.Count.{Rose};
+ghost use Rattle.byte_base.specs.Count.{Rose};
 ghost use Rattle.vfs_trait.specs.State.{Steady};
 ghost use Rattle.shell_top.specs.Ends.{SinkSteady};
 ghost use Rattle.shell_top.specs.Line.{HasNoFeed, last_line};

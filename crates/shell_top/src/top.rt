@@ -1,7 +1,7 @@
 //! A whole run of the shell, from its words to its status.
 
 ghost use Rattle.std.specs.Prelude.{◌≡◌, ℕ, ◌+◌, ◌*◌, ◌≤◌, List, [], length, take, map, string_bytes, IfOk, OnErr, IsTrue};
-ghost use Rattle.vfs_trait.specs.Count.{Rose};
+ghost use Rattle.byte_base.specs.Count.{Rose};
 ghost use Rattle.vfs_trait.specs.State.{NoneOpen, Steady};
 ghost use Rattle.shell_top.specs.Ends.{SourceSteady, Gives};
 ghost use Rattle.shell_top.specs.Ran.{Ran, Went};

@@ -4,7 +4,7 @@ use Rattle.tree_page.specs.Page.{Extent, Within}
 use Rattle.tree_page.specs.Steps.{IsClear, Marks, AreClear}
 
 -- whether a place is one of an extent
-within_or : (e : Extent) (place : ℕ) → Within e place ⊎ ((place < e.place) ⊎ (e.place + e.size ≤ place))
+pub within_or : (e : Extent) (place : ℕ) → Within e place ⊎ ((place < e.place) ⊎ (e.place + e.size ≤ place))
 within_or e place =
     elim (cases_lt place e.place) [
       | inl before ↦ inr (inl before)

@@ -1,6 +1,6 @@
 use Rattle.std.proofs.Common.{◌≡◌, ℕ, ◌+◌, ◌<◌, max, Bool, ℤ, List, [], ◌∷◌, ◌++◌, length, map, Option, Some, None, sym, subst, ap, ◌∙◌, arith, append_assoc}
 use Rattle.std.proofs.lemmas.List.{map_push}
-use Rattle.db_format.specs.Header.{number_at}
+use Rattle.byte_base.specs.Numbers.{number_at}
 use Rattle.tree_page.specs.declared.cell.Kind.{Kind}
 use Rattle.tree_page.specs.Page.{Cell, rowid_of, Extent, Placed, extent_of, IsFreeblock, AreFreeblocks}
 use Rattle.tree_page.specs.Steps.{IsClear, Marks, AreClear, RiseFrom, IsNext, TakesNext, AreCells}

@@ -1,9 +1,12 @@
-use Rattle.std.proofs.Common.{◌≡◌, ℕ, zero, suc, ◌+◌, ◌-◌, ◌≤◌, ◌<◌, max, ℤ, List, [], ◌∷◌, length, map, drop, Option, Some, None, IfSome, slice_get, refl, sym, subst, ap, ◌∙◌, arith}
+use Rattle.std.proofs.Common.{◌≡◌, ℕ, zero, suc, ◌+◌, ◌-◌, ◌≤◌, ◌<◌, max, ℤ, ◌<ℤ◌, List, [], ◌∷◌, ◌++◌, length, map, drop, Option, Some, None, IfSome, slice_get, refl, sym, subst, ap, ◌∙◌, arith}
 use Rattle.std.specs.List.{AllByRecursion}
-use Rattle.std.proofs.lemmas.List.{drop_all}
+use Rattle.std.proofs.lemmas.List.{drop_all, map-append}
+use Rattle.std.proofs.lemmas.Int.{ints}
 use Rattle.tree_page.specs.declared.cell.PageCells.{PageCells}
-use Rattle.tree_page.specs.Page.{Cell, rowid_of, cells_of, page_kind, first_pointer}
+use Rattle.tree_page.specs.declared.cell.PageCells.TheVariants.{Leaf, Interior}
+use Rattle.tree_page.specs.Page.{Cell, leaf, inner, rowid_of, cells_of, page_kind, first_pointer, AreAbove}
 use Rattle.tree_page.specs.Written.{Fits, IsSound, space_of, written_size}
+use Rattle.tree_page.specs.Laws.{FitsWithout}
 use Rattle.tree_page.specs.Steps.{IsAbove, RiseFrom, Joins}
 
 -- the cells come behind the last one, are sound, and have room
@@ -89,3 +92,52 @@ fit_end usable at room last cells past = subst (FitsFrom usable last room) (sym 
 -- all cells of a page
 pub fits_from : (cells : PageCells) (number usable : ℕ) → Fits cells number usable → FitsFrom usable None (usable - first_pointer number (page_kind cells)) (cells_of cells)
 fits_from cells number usable fit = record { rising = fit.rising; sound = fit.sound; space = omega (arith, fit.room) }
+
+-- one cell left out
+
+above_less : (last key : ℤ) (keys : List ℤ) → last <ℤ key → AreAbove key keys → AreAbove last keys
+above_less last key [] less above = tt
+above_less last key (next ∷ keys) less above = (let more = above.0 in omega (arith, ints), above.1)
+
+rise_skip : (last : Option ℤ) (key : ℤ) (keys : List ℤ) → RiseFrom last (key ∷ keys) → RiseFrom last keys
+rise_skip None key [] all = tt
+rise_skip None key (next ∷ keys) all = all.1
+rise_skip (Some last) key keys all = above_less last key keys all.0 all.1
+
+from_without : (usable : ℕ) (last : Option ℤ) (room : ℕ) (front back : List Cell) (cell : Cell) → FitsFrom usable last room (front ++ cell ∷ back) → FitsFrom usable last room (front ++ back)
+from_without usable last room [] back cell all = record {
+  rising = rise_skip last (rowid_of cell) (map rowid_of back) all.rising;
+  sound = all.sound.1;
+  space = omega (arith, all.space);
+}
+from_without usable last room (c ∷ front) back cell all =
+    let key = rowid_of c in
+    let keys = map rowid_of (front ++ cell ∷ back) in
+    let rest : FitsFrom usable (Some key) (room - (2 + max 4 (written_size c))) (front ++ cell ∷ back) = record {
+      rising = rise_rest last key keys all.rising;
+      sound = all.sound.1;
+      space = omega (arith, all.space);
+    } in
+    let less = from_without usable (Some key) (room - (2 + max 4 (written_size c))) front back cell rest in
+    record {
+      rising = rise_more last key (map rowid_of (front ++ back)) (rise_above last key keys all.rising) less.rising;
+      sound = (all.sound.0, less.sound);
+      space = omega (arith, all.space, less.space);
+    }
+
+-- on a page with its first pointer here
+page_without : {X : Type 0} (kind : X → Cell) (usable first : ℕ) (front back : List X) (x : X)
+    → FitsFrom usable None (usable - first) (map kind (front ++ x ∷ back)) → FitsFrom usable None (usable - first) (map kind (front ++ back))
+page_without kind usable first front back x all =
+    let P : List Cell → Type 0 = FitsFrom usable None (usable - first) in
+    subst P (sym (map-append kind front back)) (from_without usable None (usable - first) (map kind front) (map kind back) (kind x) (subst P (map-append kind front (x ∷ back)) all))
+
+pub fits_without : FitsWithout
+fits_without = record {
+  of_leaf = λ front back cell number usable fit.
+      let less = page_without leaf usable (first_pointer number (page_kind (Leaf (front ++ back)))) front back cell (fits_from (Leaf (front ++ cell ∷ back)) number usable fit) in
+      record { rising = less.rising; sound = less.sound; room = omega (arith, fit.room, less.space) };
+  of_interior = λ front back cell right other number usable fit.
+      let less = page_without inner usable (first_pointer number (page_kind (Interior (front ++ back) other))) front back cell (fits_from (Interior (front ++ cell ∷ back) right) number usable fit) in
+      record { rising = less.rising; sound = less.sound; room = omega (arith, fit.room, less.space) };
+}

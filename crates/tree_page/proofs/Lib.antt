@@ -11,3 +11,6 @@ pub mod FitLemmas
 pub mod CellLemmas
 pub mod LayLemmas
 pub mod SizeLemmas
+pub mod FrontLemmas
+pub mod MarkLemmas
+pub mod RoomLemmas

@@ -1,6 +1,6 @@
 use Rattle.std.proofs.Common.{◌≡◌, ℕ, zero, suc, ◌+◌, Bool, false, List, [], ◌∷◌, map, get_or, replicate, refl, sym, subst, ap, ◌∙◌, arith}
 use Rattle.std.specs.List.{AllByRecursion, All}
-use Rattle.db_format.specs.Header.{number_at}
+use Rattle.byte_base.specs.Numbers.{number_at}
 use Rattle.tree_page.specs.declared.cell.Kind.{Kind}
 use Rattle.tree_page.specs.declared.cell.Kind.TheVariants as kinds
 use Rattle.tree_page.specs.declared.cell.LeafCell.{LeafCell}

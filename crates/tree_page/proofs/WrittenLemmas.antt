@@ -5,7 +5,7 @@ use Rattle.std.proofs.lemmas.Bool.{cases_lt}
 use Rattle.std.proofs.lemmas.Bool.Decides.{nat_tests}
 use Rattle.byteorder.specs.Endian.{big_bytes, big_number}
 use Rattle.byteorder.specs.Numbers.{length-bytes_high_first, big_number-reads_back}
-use Rattle.db_format.specs.Header.{number_at}
+use Rattle.byte_base.specs.Numbers.{number_at}
 use Rattle.tree_page.specs.declared.cell.PageCells.{PageCells}
 use Rattle.tree_page.specs.declared.cell.PageCells.TheVariants.{Leaf, Interior}
 use Rattle.tree_page.specs.Page.{Cell, rowid_of, cells_of, page_kind, type_byte, begin_of, header_size, first_pointer, content_start, Covered, AreApart, Placed, extent_of, Spells, Stands, ArePointers, HasRight, IsTreePage, IsPage, AreRising}

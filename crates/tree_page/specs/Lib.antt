@@ -1,3 +1,4 @@
 pub mod Page
 pub mod Written
 pub mod Steps
+pub mod Laws

@@ -3,7 +3,7 @@ use Rattle.std.specs.Prelude.{◌≡◌, ◌⊎◌, ℕ, ◌+◌, ◌-◌, ◌*�
 use Rattle.std.specs.List.{AllByRecursion, All}
 use Rattle.std.specs.Int.{w64, cast_unsigned}
 use Rattle.byteorder.specs.Endian.{big_bytes, big_number}
-use Rattle.db_format.specs.Header.{number_at}
+use Rattle.byte_base.specs.Numbers.{number_at}
 use Rattle.db_format.specs.Varint.{IsVarint, IsShortest}
 use Rattle.tree_page.specs.declared.cell.Kind.{Kind}
 use Rattle.tree_page.specs.declared.cell.Kind.TheVariants as kinds

@@ -61,6 +61,13 @@ impl LeafCells {
         LeafCells { items }
     }
 
+    /// The vector of the cells, without taking memory.
+    pub fn into_vec(self) -> Vec<LeafCell>
+        ensures { result.items ≡ self }
+    {
+        self.items
+    }
+
     /// The cells, without taking memory.
     pub fn as_slice(&self) -> &[LeafCell]
         ensures { result.now ≡ self.now }
@@ -99,6 +106,13 @@ impl InnerCells {
         ensures { result ≡ items.items }
     {
         InnerCells { items }
+    }
+
+    /// The vector of the cells, without taking memory.
+    pub fn into_vec(self) -> Vec<InnerCell>
+        ensures { result.items ≡ self }
+    {
+        self.items
     }
 
     /// The cells, without taking memory.
@@ -144,7 +158,7 @@ impl PageCells {
     }
 
     /// How many cells there are.
-    pub(crate) fn len(&self) -> usize
+    pub fn len(&self) -> usize
         ensures { result ≡ length (cells_of self.now) }
     {
         match self {

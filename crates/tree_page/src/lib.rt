@@ -4,6 +4,7 @@
 #![tactic(auto)]
 
 mod cell;
+mod laws;
 mod marks;
 mod put;
 mod read;
@@ -13,6 +14,7 @@ mod tests;
 mod write;
 
 pub use cell::{InnerCell, InnerCells, LeafCell, LeafCells, PageCells};
+pub use laws::{fits_without, front_apart, page_fits};
 pub use read::{one_page, read_page};
-pub use room::fits;
+pub use room::{fits, space_at};
 pub use write::write_page;

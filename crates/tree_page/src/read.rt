@@ -5,7 +5,7 @@
 
 ghost use Rattle.std.specs.Prelude.{◌≡◌, ℕ, ◌+◌, ◌*◌, ◌≤◌, ◌<◌, ◌⊎◌, ◌↔◌, true, false, List, [], ◌∷◌, ◌++◌, length, map, take, drop, Option, Some, None, IfOk, IfSome, IfNone, IsErrOf, IsTrue, slice_index};
 ghost use Rattle.std.specs.List.{All};
-ghost use Rattle.db_format.specs.Header.{number_at};
+ghost use Rattle.byte_base.specs.Numbers.{number_at};
 ghost use Rattle.tree_page.specs.declared.cell.Kind.{Kind};
 ghost use Rattle.tree_page.specs.declared.cell.LeafCell.{LeafCell};
 ghost use Rattle.tree_page.specs.declared.cell.InnerCell.{InnerCell};
@@ -134,7 +134,7 @@ fn kind_at(bytes: &[u8], begin: usize) -> Option<Kind>
 }
 
 /// The number of the right-most child, 0 on a leaf.
-#[tactic(auto, unfolding(db_format::specs::Header::number_at))]
+#[tactic(auto, unfolding(byte_base::specs::Numbers::number_at))]
 fn right_at(bytes: &[u8], begin: usize, kind: Kind) -> u32
     requires { begin + 12 ≤ length bytes.now }
     ensures { kind ≡ Kind.Interior → result ≡ number_at 4 bytes.now (begin + 8) }
@@ -175,7 +175,7 @@ pub(crate) fn header_size(kind: Kind) -> usize
 }
 
 /// The big-endian number of two bytes at a place.
-#[tactic(auto, unfolding(db_format::specs::Header::number_at))]
+#[tactic(auto, unfolding(byte_base::specs::Numbers::number_at))]
 fn short_at(bytes: &[u8], place: usize) -> usize
     requires { place + 2 ≤ length bytes.now }
     ensures value { result ≡ number_at 2 bytes.now place }
@@ -228,7 +228,7 @@ fn find_cells(
     ensures found { IfOk result (λ found. HasFound bytes.now head marks.old marks.new found.items) }
     ensures corrupt { IsErrOf result FormatFault.Corrupt → (placed : List Placed) (free : List Extent) → length placed ≡ head.count → ¬ (AreCells bytes.now head.content head.kind head.pointers None marks.old placed free) }
 {
-    let mut found = Vec::new(alloc);
+    let mut found = Vec::with_capacity(alloc, head.count)?;
     let mut last = None;
     for at in 0..head.count {
         let place = short_at(bytes, head.pointers + 2 * at);
@@ -451,7 +451,7 @@ fn leaves(alloc: Global, bytes: &[u8], found: &[Found]) -> Result<LeafCells, All
     requires { All (IsFound bytes.now Kind.Leaf) found.now }
     ensures { IfOk result (λ cells. map leaf cells ≡ map (cell_of bytes.now) found.now) }
 {
-    let mut cells = LeafCells::from_vec(Vec::new(alloc));
+    let mut cells = LeafCells::from_vec(Vec::with_capacity(alloc, found.len())?);
     for one in found {
         let Found::Leaf(spot) = one else {
             unreachable!()
@@ -480,7 +480,7 @@ fn inners(alloc: Global, found: &[Found]) -> Result<InnerCells, AllocError>
     requires { All (IsFound [] Kind.Interior) found.now }
     ensures { IfOk result (λ cells. (bytes : List ℕ) → map inner cells ≡ map (cell_of bytes) found.now) }
 {
-    let mut cells = InnerCells::from_vec(Vec::new(alloc));
+    let mut cells = InnerCells::from_vec(Vec::with_capacity(alloc, found.len())?);
     for one in found {
         let Found::Inner(cell) = one else {
             unreachable!()

@@ -46,7 +46,7 @@ fn room_behind(
     if !is_above(last, cells.rowid(at)) || !is_sound(cells, at, usable) {
         return None;
     }
-    room.checked_sub(2 + written_size(cells, at).max(LEAST_EXTENT))
+    room.checked_sub(space_at(cells, at))
 }
 
 /// Whether a page of so many usable bytes can have the cell.
@@ -74,6 +74,16 @@ fn keeps_local(cell: &LeafCell, usable: u32) -> bool
     let size = cell.local.as_slice().len();
     size == local_size(usable, cell.payload_len) as usize
         && (cell.overflow == 0 || (size as u64) < cell.payload_len)
+}
+
+/// What a cell takes on a page: two bytes for its pointer, and itself at least four.
+pub fn space_at(cells: &PageCells, at: usize) -> usize
+    requires at { at < length (cells_of cells.now) }
+    requires short { (cell : LeafCell) → slice_get (cells_of cells.now) at ≡ Some (leaf cell) → length cell.local ≤ 65536 }
+    ensures value { (cell : Cell) → slice_get (cells_of cells.now) at ≡ Some cell → result ≡ 2 + max 4 (written_size cell) }
+    ensures most { result ≤ 65560 }
+{
+    2 + written_size(cells, at).max(LEAST_EXTENT)
 }
 
 /// How many bytes a cell has as it is written.

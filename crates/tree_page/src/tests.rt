@@ -1,36 +1,53 @@
 //! Pages read and written.
 
+use crate::put::put;
 use crate::{InnerCell, InnerCells, LeafCell, LeafCells, PageCells, fits, read_page, write_page};
-use db_format::{Bytes, FormatFault, local_size};
+use byte_base::{put_u16, u16_at};
+use db_format::{
+    ByteLists, Bytes, Create, FormatFault, Header, Value, are_columns, is_identifier, local_size,
+    new_header, write_create, write_header, write_record,
+};
 use std::alloc::{AllocError, Global};
 use std::test::Fail;
 
 /// Bytes that stand at a place.
 type Patch = (usize, &'static [u8]);
 
-/// The b-tree page of page 1 of a new database with the plain table `t` of one column, and its one cell.
-const SCHEMA_HEAD: Patch = (100, b"\x0d\x00\x00\x00\x01\x01\xdf\x00\x01\xdf");
-
-const SCHEMA_ROW: Patch = (
-    479,
-    b"\x1f\x01\x06\x17\x0f\x0f\x01\x2ftablett\x02CREATE TABLE t(a)",
-);
-
-/// Page 2 of that database, a leaf without cells.
-const EMPTY_LEAF: Patch = (0, b"\x0d\x00\x00\x00\x00\x02\x00\x00");
+/// The file of the table `t` of the column `a`, without a row: page 1 with the row of its schema, and page 2.
+const FILE: [Patch; 9] = [
+    (0, b"SQLite format 3\x00"),
+    (16, b"\x02\x00\x01\x01\x00\x40\x20\x20"),
+    (24, b"\x00\x00\x00\x01\x00\x00\x00\x02"),
+    (40, b"\x00\x00\x00\x01\x00\x00\x00\x04"),
+    (56, b"\x00\x00\x00\x01"),
+    (92, b"\x00\x00\x00\x01\x00\x2e\x63\x00"),
+    (100, b"\x0d\x00\x00\x00\x01\x01\xdf\x00\x01\xdf"),
+    (
+        479,
+        b"\x1f\x01\x06\x17\x0f\x0f\x01\x2ftablett\x02CREATE TABLE t(a)",
+    ),
+    (512, b"\x0d\x00\x00\x00\x00\x02\x00\x00"),
+];
 
 /// A page of zeros with bytes laid over it.
 fn page_of(alloc: Global, size: usize, patches: &[Patch]) -> Result<Vec<u8>, AllocError> {
     let mut page = vec![in alloc; 0; size]?;
-    for (place, patch) in patches {
-        lay(&mut page, *place, patch);
-    }
+    lay(&mut page, patches, 0, 0);
     Ok(page)
 }
 
-fn lay(page: &mut [u8], place: usize, patch: &[u8]) {
-    for (slot, byte) in page.iter_mut().skip(place).zip(patch.iter()) {
-        *slot = *byte;
+/// Lays bytes over a page: those of the header, which has fewer than 100, so many places farther, and the rest so
+/// many lower.
+fn lay(page: &mut [u8], patches: &[Patch], farther: usize, lower: usize) {
+    for (place, patch) in patches {
+        let at = if *place < 100 {
+            place.wrapping_add(farther)
+        } else {
+            place.wrapping_sub(lower)
+        };
+        if at <= page.len() && patch.len() <= page.len() - at {
+            put(page, at, patch);
+        }
     }
 }
 
@@ -42,232 +59,328 @@ fn read(alloc: Global, page: &[u8], number: u32, usable: u32) -> Result<PageCell
     }
 }
 
-/// Writes cells where they fit, on a page that has another content.
-fn written(
+/// Writes cells where they fit.
+fn write(cells: &PageCells, number: u32, usable: u32, page: &mut [u8]) {
+    let within = 480 <= usable && usable as usize <= page.len() && page.len() <= 65536;
+    if within && fits(cells, number, usable) {
+        write_page(cells, number, usable, page);
+    }
+}
+
+/// A page that had another content, with the cells where they fit.
+fn page_with(
     alloc: Global,
     cells: &PageCells,
     number: u32,
     usable: u32,
     size: usize,
-) -> Result<Option<Vec<u8>>, AllocError> {
+) -> Result<Vec<u8>, AllocError> {
     let mut page = vec![in alloc; 0x5a; size]?;
-    let within = 480 <= usable && usable as usize <= page.len() && page.len() <= 65536;
-    if within && fits(cells, number, usable) {
-        write_page(cells, number, usable, &mut page);
-        return Ok(Some(page));
-    }
-    Ok(None)
+    write(cells, number, usable, &mut page);
+    Ok(page)
 }
 
-/// Cells of a leaf with payloads of zeros of these lengths, as much of each as is local.
-fn leaf_of(alloc: Global, usable: u32, rows: &[(i64, u64)]) -> Result<PageCells, AllocError> {
-    let mut cells = LeafCells::from_vec(Vec::new(alloc));
-    for (rowid, payload_len) in rows {
-        let size = if 480 <= usable && usable <= 65536 {
-            local_size(usable, *payload_len)
-        } else {
-            0
-        };
-        let local = Bytes::from_vec(vec![in alloc; 7; size as usize]?);
-        let overflow = if u64::from(size) < *payload_len { 9 } else { 0 };
-        cells.push(LeafCell {
-            rowid: *rowid,
-            payload_len: *payload_len,
-            local,
-            overflow,
-        })?;
-    }
-    Ok(PageCells::Leaf(cells))
+/// Whether the cells that are read on a page are written as that page.
+fn comes_back(alloc: Global, page: &[u8], number: u32, usable: u32) -> Result<bool, FormatFault> {
+    let cells = read(alloc, page, number, usable)?;
+    let again = page_with(alloc, &cells, number, usable, page.len())?;
+    Ok(*again == *page)
 }
 
-fn is_same(some: &PageCells, other: &PageCells) -> bool {
-    match (some, other) {
-        (PageCells::Leaf(some), PageCells::Leaf(other)) => {
-            let mut pairs = some.as_slice().iter().zip(other.as_slice());
-            some.as_slice().len() == other.as_slice().len() && pairs.all(|(a, b)| is_same_row(a, b))
-        }
-        (
-            PageCells::Interior { cells, right },
-            PageCells::Interior {
-                cells: others,
-                right: other,
-            },
-        ) => cells.as_slice() == others.as_slice() && right == other,
-        _ => false,
-    }
+fn text(alloc: Global, bytes: &[u8]) -> Result<Bytes, AllocError> {
+    Ok(Bytes::from_vec(Vec::from_slice(alloc, bytes)?))
 }
 
-fn is_same_row(a: &LeafCell, b: &LeafCell) -> bool {
-    a.rowid == b.rowid
-        && a.payload_len == b.payload_len
-        && a.overflow == b.overflow
-        && a.local.as_slice() == b.local.as_slice()
+/// The text of the table `t` of the column `a`.
+fn create_text(alloc: Global) -> Result<Bytes, AllocError> {
+    let mut columns = ByteLists::from_vec(Vec::new(alloc));
+    columns.push(text(alloc, b"a")?)?;
+    let name = text(alloc, b"t")?;
+    if is_identifier(name.as_slice()) && are_columns(columns.as_slice()) {
+        return write_create(alloc, &Create { name, columns });
+    }
+    Ok(name)
+}
+
+/// The row of that table in the schema.
+fn schema_row(alloc: Global) -> Result<Bytes, AllocError> {
+    let mut values = Vec::new(alloc);
+    for word in [b"table".as_slice(), b"t", b"t"] {
+        values.push(Value::Text(text(alloc, word)?))?;
+    }
+    values.push(Value::Int(2))?;
+    values.push(Value::Text(create_text(alloc)?))?;
+    write_record(alloc, &values)
+}
+
+/// Page 1 of that file.
+fn first_page(alloc: Global) -> Result<Vec<u8>, AllocError> {
+    let local = schema_row(alloc)?;
+    let mut rows = LeafCells::from_vec(Vec::new(alloc));
+    rows.push(LeafCell {
+        rowid: 1,
+        payload_len: local.as_slice().len() as u64,
+        local,
+        overflow: 0,
+    })?;
+    let mut page = page_with(alloc, &PageCells::Leaf(rows), 1, 512, 512)?;
+    put_header(&mut page);
+    Ok(page)
+}
+
+/// The header of a database of two pages.
+fn put_header(page: &mut [u8]) {
+    if page.len() < 100 {
+        return;
+    }
+    new_header(512, 0, page);
+    let header = Header {
+        page: 512,
+        reserved: 0,
+        counter: 1,
+        size: 2,
+        first_trunk: 0,
+        free_pages: 0,
+        cookie: 1,
+    };
+    write_header(&header, page);
 }
 
 #[test]
-fn the_pages_of_a_new_table(rt: HostRuntime) -> Result<(), Fail> {
-    let page = page_of(rt.alloc(), 512, &[SCHEMA_HEAD, SCHEMA_ROW])?;
-    let cells = read(rt.alloc(), &page, 1, 512)?;
-    let PageCells::Leaf(rows) = &cells else {
-        return Err("no leaf")?;
-    };
-    assert!(rt;
-        matches!(rows.as_slice(), [row] if row.rowid == 1 && row.payload_len == 31 && row.overflow == 0 && row.local.as_slice() == &SCHEMA_ROW.1[2..])
-    );
-    let again = written(rt.alloc(), &cells, 1, 512, 512)?.ok_or("does not fit")?;
-    assert!(rt; again.as_slice().iter().take(100).all(|byte| *byte == 0x5a));
-    assert!(rt;
-        again
-            .as_slice()
-            .iter()
-            .skip(100)
-            .eq(page.as_slice().iter().skip(100))
-    );
-    let empty = page_of(rt.alloc(), 512, &[EMPTY_LEAF])?;
-    let none = read(rt.alloc(), &empty, 2, 512)?;
-    assert!(rt; matches!(&none, PageCells::Leaf(rows) if rows.as_slice().is_empty()));
-    let again = written(rt.alloc(), &none, 2, 512, 512)?.ok_or("does not fit")?;
-    assert!(rt; again.as_slice() == empty.as_slice());
+fn the_file_of_a_new_table(rt: HostRuntime) -> Result<(), Fail> {
+    let mut file = first_page(rt.alloc())?;
+    file.extend_from_slice(&empty_page(rt.alloc(), 512)?)?;
+    assert!(rt; file == page_of(rt.alloc(), 1024, &FILE)?);
     Ok(())
 }
 
-/// A leaf with two cells, a freeblock of six bytes and two fragments, for pages of 512 bytes: its header, and the rest.
-const HEADER: &[u8] = b"\x0d\x01\xf0\x00\x02\x01\xe0\x02\x01\xe0\x01\xf8";
+/// Page 2 with no cells.
+fn empty_page(alloc: Global, size: usize) -> Result<Vec<u8>, AllocError> {
+    let cells = PageCells::Leaf(LeafCells::from_vec(Vec::new(alloc)));
+    page_with(alloc, &cells, 2, size.min(65536) as u32, size)
+}
 
-const CONTENT: [Patch; 3] = [
+/// A leaf with two cells, a freeblock of six bytes and two fragments, for pages of 512 bytes.
+const LEAF: [Patch; 4] = [
+    (0, b"\x0d\x01\xf0\x00\x02\x01\xe0\x02\x01\xe0\x01\xf8"),
     (480, b"\x02\x01\xaa\xbb"),
     (496, b"\x00\x00\x00\x06"),
     (504, b"\x03\x02\x01\x02\x03"),
 ];
 
-/// The leaf on page 1 or another, with other bytes in its header and in the rest.
+/// The leaf with other bytes laid over it. Where 32 bytes are reserved behind it, its content stands as many
+/// places lower.
 fn changed(
     alloc: Global,
-    number: u32,
-    header: &[Patch],
-    rest: &[Patch],
+    begin: usize,
+    reserved: u16,
+    patches: &[Patch],
 ) -> Result<Vec<u8>, AllocError> {
-    let begin = if number == 1 { 100 } else { 0 };
-    let mut page = page_of(alloc, 512, &CONTENT)?;
-    lay(&mut page, begin, HEADER);
-    for (place, patch) in header {
-        lay(&mut page, begin.saturating_add(*place), patch);
-    }
-    for (place, patch) in rest {
-        lay(&mut page, *place, patch);
+    let by = usize::from(reserved);
+    let mut page = page_of(alloc, 512, &[])?;
+    lay(&mut page, &LEAF, begin, by);
+    lay(&mut page, patches, begin, by);
+    lower(&mut page, begin.wrapping_add(1), reserved);
+    lower(&mut page, begin.wrapping_add(5), reserved);
+    lower(&mut page, begin.wrapping_add(8), reserved);
+    lower(&mut page, begin.wrapping_add(10), reserved);
+    lower(&mut page, 496usize.wrapping_sub(by), reserved);
+    if reserved == 32 {
+        lay(&mut page, &[(480, &[0x5a; 32])], 0, 0);
     }
     Ok(page)
 }
 
-#[test]
-fn freeblocks_and_fragments_are_well_formed(rt: HostRuntime) -> Result<(), Fail> {
-    for number in [1, 2] {
-        let page = changed(rt.alloc(), number, &[], &[])?;
-        let cells = read(rt.alloc(), &page, number, 512)?;
-        let PageCells::Leaf(rows) = &cells else {
-            return Err("no leaf")?;
-        };
-        assert!(rt;
-            matches!(rows.as_slice(), [a, b] if a.rowid == 1 && a.local.as_slice() == b"\xaa\xbb".as_slice() && b.rowid == 2 && b.payload_len == 3),
-            "page {number}"
-        );
+/// Makes the place that two bytes name lower, where it is one of the content.
+fn lower(page: &mut [u8], at: usize, by: u16) {
+    if at < 500 && page.len() == 512 {
+        let place = u16_at(page, at);
+        if place >= 400 && place < 600 {
+            put_u16(page, at, place - by.min(400));
+        }
     }
-    Ok(())
+}
+
+/// A rule, and bytes that break it alone where they are laid over the leaf.
+type Case = (&'static str, &'static [Patch]);
+
+const MALFORMED: [Case; 18] = [
+    ("another kind", &[(0, b"\x02")]),
+    ("content within the pointers", &[(5, b"\x00\x0b")]),
+    (
+        "content passes the end",
+        &[(1, b"\x00\x00\x00\x00\x02\x01")],
+    ),
+    ("cell before the pointers", &[(8, b"\x00\x00")]),
+    ("cell before the content", &[(5, b"\x01\xe1")]),
+    (
+        "freeblock before the content",
+        &[(1, b"\x01\xdc"), (476, b"\x00\x00\x00\x04")],
+    ),
+    ("cell begins at the end", &[(10, b"\x02\x00")]),
+    (
+        "three bytes before the end",
+        &[(10, b"\x01\xfd"), (509, b"\x01\x02\x00")],
+    ),
+    ("small freeblock", &[(496, b"\x00\x00\x00\x03")]),
+    ("freeblock of two bytes", &[(1, b"\x01\xfe")]),
+    (
+        "freeblock passes the end",
+        &[
+            (1, b"\x01\xf8"),
+            (10, b"\x01\xf0"),
+            (496, b"\x03\x02\x01\x02\x03"),
+            (504, b"\x00\x00\x00\x09"),
+        ],
+    ),
+    (
+        "falling freeblocks",
+        &[(488, b"\x00\x00\x00\x04"), (496, b"\x01\xe8")],
+    ),
+    ("cells overlap", &[(10, b"\x01\xe2"), (482, b"\x02\x02")]),
+    ("cell and freeblock overlap", &[(496, b"\x00\x00\x00\x09")]),
+    (
+        "varint cut off",
+        &[(504, b"\x80\x80\x80\x80\x80\x80\x80\x80")],
+    ),
+    ("payload cut off", &[(504, b"\x07\x02")]),
+    (
+        "overflow page cut off",
+        &[
+            (1, b"\x00\x00\x00\x01\x01\xd4"),
+            (8, b"\x01\xd4"),
+            (468, b"\x84\x03\x02"),
+        ],
+    ),
+    ("equal keys", &[(505, b"\x01")]),
+];
+
+/// How the changed leaf is read on page 1 and another, with and without reserved bytes: as it should.
+fn are_read(alloc: Global, patches: &[Patch], well_formed: bool) -> Result<bool, AllocError> {
+    for (number, begin, reserved) in [(1, 100, 0), (1, 100, 32), (2, 0, 0), (2, 0, 32)] {
+        let page = changed(alloc, begin, reserved, patches)?;
+        if !is_read(alloc, &page, number, 512 - u32::from(reserved), well_formed) {
+            return Ok(false);
+        }
+    }
+    Ok(true)
+}
+
+/// Whether the page is read where it is well-formed, and else is corrupt.
+fn is_read(alloc: Global, page: &[u8], number: u32, usable: u32, well_formed: bool) -> bool {
+    match read(alloc, page, number, usable) {
+        Ok(_) => well_formed,
+        Err(fault) => !well_formed && fault == FormatFault::Corrupt,
+    }
+}
+
+/// How many cases in front are refused.
+fn refused(alloc: Global, cases: &[Case]) -> Result<usize, AllocError> {
+    for (at, (_, patches)) in cases.iter().enumerate() {
+        if !are_read(alloc, patches, false)? {
+            return Ok(at);
+        }
+    }
+    Ok(cases.len())
 }
 
 #[test]
 fn each_way_of_being_malformed_is_refused(rt: HostRuntime) -> Result<(), Fail> {
-    let cases: [(&str, &[Patch], &[Patch]); 18] = [
-        ("another kind", &[(0, b"\x02")], &[]),
-        ("pointers pass the end", &[(3, b"\x01\x00")], &[]),
-        ("content within the pointers", &[(5, b"\x00\x0b")], &[]),
-        ("content passes the end", &[(5, b"\x02\x01")], &[]),
-        ("cell before the content", &[(5, b"\x01\xe1")], &[]),
-        (
-            "freeblock before the content",
-            &[(1, b"\x01\xdc")],
-            &[(476, b"\x00\x00\x00\x04")],
-        ),
-        ("cell begins at the end", &[(10, b"\x02\x00")], &[]),
-        (
-            "three bytes before the end",
-            &[(10, b"\x01\xfd")],
-            &[(509, b"\x01\x02\x00")],
-        ),
-        ("small freeblock", &[], &[(496, b"\x00\x00\x00\x03")]),
-        ("freeblock passes the end", &[(1, b"\x01\xfe")], &[]),
-        ("long freeblock", &[], &[(496, b"\x00\x00\x02\x00")]),
-        (
-            "freeblock behind itself",
-            &[],
-            &[(496, b"\x01\xf0\x00\x06")],
-        ),
-        ("cells overlap", &[(10, b"\x01\xe2")], &[(483, b"\x08")]),
-        (
-            "cell and freeblock overlap",
-            &[],
-            &[(496, b"\x00\x00\x00\x09")],
-        ),
-        (
-            "varint cut off",
-            &[],
-            &[(504, b"\x80\x80\x80\x80\x80\x80\x80\x80")],
-        ),
-        ("payload cut off", &[], &[(504, b"\x07\x02")]),
-        ("overflow page cut off", &[], &[(504, b"\x83\x5e\x02")]),
-        ("equal keys", &[], &[(505, b"\x01")]),
-    ];
-    for (case, header, rest) in cases {
-        for number in [1, 2] {
-            let page = changed(rt.alloc(), number, header, rest)?;
-            let fault = read(rt.alloc(), &page, number, 512).err();
-            assert!(rt;
-                matches!(fault, Some(FormatFault::Corrupt)),
-                "{case} on page {number}"
-            );
+    assert!(rt; are_read(rt.alloc(), &[], true)?);
+    assert_eq!(rt; refused(rt.alloc(), &MALFORMED)?, 18);
+    Ok(())
+}
+
+#[test]
+fn a_freeblock_ends_with_the_largest_page(rt: HostRuntime) -> Result<(), Fail> {
+    let head: Patch = (0, b"\x0d\xff\xfc\x00\x00\xff\xfc\x00");
+    let four = page_of(rt.alloc(), 65536, &[head, (65535, b"\x04")])?;
+    assert!(rt; is_read(rt.alloc(), &four, 2, 65536, true));
+    let five = page_of(rt.alloc(), 65536, &[head, (65535, b"\x05")])?;
+    assert!(rt; is_read(rt.alloc(), &five, 2, 65536, false));
+    Ok(())
+}
+
+/// A cell of a leaf with a payload of this length, as much of it as is local.
+fn row(alloc: Global, usable: u32, rowid: i64, payload_len: u64) -> Result<LeafCell, AllocError> {
+    let mut size = 0;
+    if 480 <= usable && usable <= 65536 {
+        size = local_size(usable, payload_len);
+    }
+    let local = vec![in alloc; 7; size as usize]?;
+    Ok(LeafCell {
+        rowid,
+        payload_len,
+        local: Bytes::from_vec(local),
+        overflow: u32::from(u64::from(size) < payload_len),
+    })
+}
+
+/// A page of that size with these rows, given by their rowids and the lengths of their payloads, where they fit.
+fn page_of_rows(
+    alloc: Global,
+    number: u32,
+    usable: u32,
+    size: usize,
+    rows: &[(i64, u64)],
+) -> Result<Vec<u8>, AllocError> {
+    let mut cells = LeafCells::from_vec(Vec::new(alloc));
+    for (rowid, payload_len) in rows {
+        cells.push(row(alloc, usable, *rowid, *payload_len)?)?;
+    }
+    page_with(alloc, &PageCells::Leaf(cells), number, usable, size)
+}
+
+/// Rows on a page of a size, a usable size and a number, and whether they fit.
+type Rows = (usize, u32, u32, &'static [(i64, u64)], bool);
+
+const ROWS: [Rows; 10] = [
+    (512, 480, 1, &[(-5, 3), (0, 0), (9, 200)], true),
+    (
+        512,
+        480,
+        2,
+        &[(i64::MIN, 446), (-1, 1), (i64::MAX, 2)],
+        true,
+    ),
+    (512, 512, 2, &[(1, 477), (2, 18)], true),
+    (512, 512, 2, &[(1, 477), (2, 19)], false),
+    (512, 512, 2, &[(1, 477), (2, 14), (3, 0)], false),
+    (512, 512, 1, &[(1, 477)], false),
+    (512, 512, 1, &[(1, 600), (300, 1000)], true),
+    (512, 512, 2, &[(2, 1), (2, 1)], false),
+    (65536, 65536, 2, &[(1, 65501)], true),
+    (65536, 65536, 3, &[(1, 65502), (2, 1 << 40)], true),
+];
+
+/// How many cases in front come back where they fit, and do not where they do not.
+fn right(alloc: Global, cases: &[Rows]) -> Result<usize, AllocError> {
+    for (at, (size, usable, number, rows, fits)) in cases.iter().enumerate() {
+        let page = page_of_rows(alloc, *number, *usable, *size, rows)?;
+        if comes_back(alloc, &page, *number, *usable).unwrap_or(false) != *fits {
+            return Ok(at);
         }
     }
-    let first_cell_at_0: Patch = (0, b"\x0d\x00\x00\x00\x01\x02\x00\x00\x00\x00");
-    let page = page_of(rt.alloc(), 512, &[first_cell_at_0])?;
-    let fault = read(rt.alloc(), &page, 2, 512).err();
-    assert!(rt; matches!(fault, Some(FormatFault::Corrupt)));
-    Ok(())
+    Ok(cases.len())
 }
 
 #[test]
-fn written_pages_are_read_again(rt: HostRuntime) -> Result<(), Fail> {
-    let cases: [(u32, usize, u32, &[(i64, u64)]); 6] = [
-        (480, 512, 1, &[(-5, 3), (0, 0), (9, 200)]),
-        (480, 512, 2, &[(i64::MIN, 446), (-1, 1), (i64::MAX, 2)]),
-        (512, 512, 2, &[(1, 477), (2, 18)]),
-        (512, 512, 1, &[(1, 600), (300, 1000)]),
-        (65536, 65536, 2, &[(1, 65501)]),
-        (65536, 65536, 3, &[(1, 65502), (2, 1 << 40)]),
-    ];
-    for (usable, size, number, rows) in cases {
-        let cells = leaf_of(rt.alloc(), usable, rows)?;
-        let page = written(rt.alloc(), &cells, number, usable, size)?.ok_or("does not fit")?;
-        let again = read(rt.alloc(), &page, number, usable)?;
-        assert!(rt; is_same(&cells, &again), "{usable} {number}");
-        let mut behind = page.as_slice().iter().skip(usable as usize);
-        assert!(rt; behind.all(|byte| *byte == 0x5a), "{usable} {number}");
+fn rows_come_back_from_a_page_where_they_fit(rt: HostRuntime) -> Result<(), Fail> {
+    assert_eq!(rt; right(rt.alloc(), &ROWS)?, 10);
+    Ok(())
+}
+
+/// An interior page with two cells.
+fn interior_page(alloc: Global) -> Result<Vec<u8>, AllocError> {
+    let mut cells = InnerCells::from_vec(Vec::new(alloc));
+    for (child, rowid) in [(7, -1), (0x0102_0304, 200)] {
+        cells.push(InnerCell { child, rowid })?;
     }
-    Ok(())
+    page_with(alloc, &PageCells::Interior { cells, right: 9 }, 4, 512, 512)
 }
 
 #[test]
-fn interior_pages_and_the_largest_page(rt: HostRuntime) -> Result<(), Fail> {
-    let mut cells = InnerCells::from_vec(Vec::new(rt.alloc()));
-    cells.push(InnerCell {
-        child: 7,
-        rowid: -1,
-    })?;
-    cells.push(InnerCell {
-        child: 0x0102_0304,
-        rowid: 200,
-    })?;
-    let inner = PageCells::Interior { cells, right: 9 };
-    let page = written(rt.alloc(), &inner, 4, 512, 512)?.ok_or("does not fit")?;
+fn the_bytes_of_an_interior_page_and_of_the_largest(rt: HostRuntime) -> Result<(), Fail> {
     let head: Patch = (
         0,
         b"\x05\x00\x00\x00\x02\x01\xed\x00\x00\x00\x00\x09\x01\xf3\x01\xed",
@@ -276,45 +389,9 @@ fn interior_pages_and_the_largest_page(rt: HostRuntime) -> Result<(), Fail> {
         493,
         b"\x01\x02\x03\x04\x81\x48\x00\x00\x00\x07\xff\xff\xff\xff\xff\xff\xff\xff\xff",
     );
-    assert!(rt; page == page_of(rt.alloc(), 512, &[head, rest])?);
-    assert!(rt; is_same(&inner, &read(rt.alloc(), &page, 4, 512)?));
-    let empty = leaf_of(rt.alloc(), 65536, &[])?;
-    let page = written(rt.alloc(), &empty, 2, 65536, 65536)?.ok_or("does not fit")?;
-    assert!(rt; page == page_of(rt.alloc(), 65536, &[(0, b"\x0d")])?);
-    assert!(rt; is_same(&empty, &read(rt.alloc(), &page, 2, 65536)?));
-    Ok(())
-}
-
-#[test]
-fn only_so_much_fits(rt: HostRuntime) -> Result<(), Fail> {
-    let cases: [(u32, &[(i64, u64)], bool); 6] = [
-        (2, &[(1, 477), (2, 18)], true),
-        (2, &[(1, 477), (2, 19)], false),
-        (1, &[(1, 477)], false),
-        (2, &[(2, 1), (2, 1)], false),
-        (2, &[(2, 1), (1, 1)], false),
-        (2, &[(1, 477), (2, 14), (3, 0)], false),
-    ];
-    for (number, rows, answer) in cases {
-        let cells = leaf_of(rt.alloc(), 512, rows)?;
-        assert!(rt;
-            fits(&cells, number, 512) == answer,
-            "{rows:?} on page {number}"
-        );
-    }
-    let other_size = leaf_of(rt.alloc(), 4096, &[(1, 600)])?;
-    assert!(rt; fits(&other_size, 2, 4096) && !fits(&other_size, 2, 512));
-    let mut cells = LeafCells::from_vec(Vec::new(rt.alloc()));
-    let local = Bytes::from_vec(vec![in rt.alloc(); 1; 5]?);
-    cells.push(LeafCell {
-        rowid: 1,
-        payload_len: 5,
-        local,
-        overflow: 3,
-    })?;
-    assert!(rt;
-        !fits(&PageCells::Leaf(cells), 2, 512),
-        "a needless overflow page"
-    );
+    let inner = interior_page(rt.alloc())?;
+    assert!(rt; inner == page_of(rt.alloc(), 512, &[head, rest])?);
+    assert!(rt; comes_back(rt.alloc(), &inner, 4, 512)?);
+    assert!(rt; empty_page(rt.alloc(), 65536)? == page_of(rt.alloc(), 65536, &[(0, b"\x0d")])?);
     Ok(())
 }

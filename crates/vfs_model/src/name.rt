@@ -1,5 +1,6 @@
 //! File names, and the kind that a name stands for.
 
+ghost use Rattle.vfs_model.specs.declared.name.TheConstants.{NAME_LEN};
 ghost use Rattle.std.specs.Prelude.{◌≡◌, ℕ, ◌+◌, ◌≤◌, ◌↔◌, List, ◌++◌, length, drop, IsTrue, IsSome, IfSome};
 ghost use Rattle.vfs_model.specs.Padded.{padded};
 ghost use Rattle.vfs_model.specs.Name.{IsName, kind_of, stem, has_part, is_name_byte};
@@ -104,8 +105,8 @@ fn is_name_byte(b: u8) -> bool
 
 /// The two texts, one behind the other, and zeros behind them.
 fn padded(front: &[u8], tail: &[u8]) -> [u8; NAME_LEN]
-    requires { length front.now + length tail.now ≤ 160 }
-    ensures { result ≡ padded 160 (front.now ++ tail.now) }
+    requires { length front.now + length tail.now ≤ NAME_LEN }
+    ensures { result ≡ padded NAME_LEN (front.now ++ tail.now) }
 {
     let mut bytes = [0; NAME_LEN];
     overlay(&mut bytes, front);

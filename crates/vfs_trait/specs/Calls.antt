@@ -5,7 +5,7 @@ use Rattle.vfs_model.specs.Effect.{Wrote, WriteFailed, WriteFull, Cut, CutFailed
 use Rattle.vfs_model.specs.declared.level.Fid.{Fid}
 use Rattle.vfs_model.specs.declared.layer.Layer.{Layer}
 use Rattle.vfs_model.specs.declared.layer.Layer.TheVariants.{Trace, Cksum, Append, Mux, Quota}
-use Rattle.vfs_trait.specs.Count.{Rose}
+use Rattle.byte_base.specs.Count.{Rose}
 use Rattle.vfs_trait.specs.State.{StackState, OpenStays}
 use Rattle.vfs_trait.specs.declared.fault.VfsFault.{VfsFault}
 use Rattle.vfs_trait.specs.declared.fault.VfsFault.TheVariants.{Failed, Memory, Busy, Full, BadPage}

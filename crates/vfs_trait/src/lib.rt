@@ -4,10 +4,9 @@
 //! After sqlite.org, "The SQLite OS Interface or VFS", with words in place of its result codes.
 #![tactic(auto)]
 
-mod bytes;
 mod fault;
 mod vfs;
 
-pub use bytes::Bytes;
+pub use byte_base::Bytes;
 pub use fault::VfsFault;
 pub use vfs::Vfs;

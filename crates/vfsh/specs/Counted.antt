@@ -1,6 +1,6 @@
 -- Counts of faults that rise at each fault and at nothing else.
 use Rattle.std.specs.Prelude.{◌≡◌, ℕ, zero, suc, ◌+◌, min, Result, Ok, Err}
-use Rattle.vfs_trait.specs.Count.{last_count}
+use Rattle.byte_base.specs.Count.{last_count}
 use Rattle.shell_top.specs.declared.ends.SinkFault.{SinkFault}
 use Rattle.shell_top.specs.declared.ends.SinkFault.TheVariants.{Failed, Memory}
 use Rattle.shell_top.specs.declared.ends.ReadFailed.{ReadFailed}

@@ -4,7 +4,7 @@
 //! faults are exact.
 
 ghost use Rattle.std.specs.Prelude.{◌≡◌, ℕ, ◌≤◌, length, IsTrue, IfOk, OnErr, IsErrOf};
-ghost use Rattle.vfs_trait.specs.Count.{Rose};
+ghost use Rattle.byte_base.specs.Count.{Rose};
 ghost use Rattle.shell_top.specs.Ends.{SourceSteady, SinkSteady, Gives, Takes};
 ghost use Rattle.vfsh.specs.Counted.{ReadCounts, WriteCounts, one_more};
 

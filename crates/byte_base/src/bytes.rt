@@ -1,0 +1,125 @@
+//! A list of bytes, and a list of such lists.
+
+ghost use Rattle.std.specs.Prelude.{◌≡◌, ℕ, List, [], ◌∷◌, ◌++◌, take, IfOk, OnOk, OnErr};
+
+use std::alloc::{AllocError, Global};
+use std::marker::Model;
+
+/// Bytes that own their memory. Contracts see them as a list.
+#[derive(Debug, Drop)]
+pub struct Bytes {
+    items: Vec<u8>,
+}
+
+impl Model for Bytes {
+    ghost Value = { List ℕ };
+
+    ghost view = { λ b. b.items.items };
+}
+
+impl Bytes {
+    /// The bytes of a vector, without taking memory.
+    pub fn from_vec(items: Vec<u8>) -> Bytes
+        ensures { result ≡ items.items }
+    {
+        Bytes { items }
+    }
+
+    /// A copy of some bytes.
+    pub fn copy_of(alloc: Global, bytes: &[u8]) -> Result<Bytes, AllocError>
+        ensures { IfOk result (λ copy. copy ≡ bytes.now) }
+    {
+        Ok(Bytes {
+            items: Vec::from_slice(alloc, bytes)?,
+        })
+    }
+
+    /// The bytes, without taking memory.
+    pub fn as_slice(&self) -> &[u8]
+        ensures { result.now ≡ self.now }
+    {
+        self.items.as_slice()
+    }
+
+    /// Puts a byte at the end. Without memory the bytes stay as they were.
+    pub fn push(&mut self, item: u8) -> Result<(), AllocError>
+        ensures ok { OnOk result (self.new ≡ self.old ++ item ∷ []) }
+        ensures err { OnErr result (self.new ≡ self.old) }
+    {
+        self.items.push(item)?;
+        Ok(())
+    }
+
+    /// Puts bytes at the end. Without memory the bytes stay as they were.
+    pub fn extend_from_slice(&mut self, more: &[u8]) -> Result<(), AllocError>
+        ensures ok { OnOk result (self.new ≡ self.old ++ more.now) }
+        ensures err { OnErr result (self.new ≡ self.old) }
+    {
+        self.items.extend_from_slice(more)
+    }
+
+    /// Keeps the first `len` bytes, or all where there are no more.
+    pub fn truncate(&mut self, len: usize)
+        ensures { self.new ≡ take len self.old }
+    {
+        self.items.truncate(len);
+    }
+}
+
+/// A list of byte strings. Contracts see it as the list of their lists of bytes.
+#[derive(Debug, Drop)]
+pub struct ByteLists {
+    items: Vec<Bytes>,
+}
+
+impl Model for ByteLists {
+    ghost Value = { List (List ℕ) };
+
+    ghost view = { λ b. b.items.items };
+}
+
+impl ByteLists {
+    /// The byte strings of a vector, without taking memory.
+    pub fn from_vec(items: Vec<Bytes>) -> ByteLists
+        ensures { result ≡ items.items }
+    {
+        ByteLists { items }
+    }
+
+    /// The byte strings, without taking memory.
+    pub fn as_slice(&self) -> &[Bytes]
+        ensures { result.now ≡ self.now }
+    {
+        self.items.as_slice()
+    }
+
+    /// Puts a byte string at the end. Without memory the list stays as it was.
+    pub fn push(&mut self, item: Bytes) -> Result<(), AllocError>
+        ensures ok { OnOk result (self.new ≡ self.old ++ item ∷ []) }
+        ensures err { OnErr result (self.new ≡ self.old) }
+    {
+        self.items.push(item)?;
+        Ok(())
+    }
+}
+
+#[cfg(test)]
+mod tests {
+    use super::*;
+    use std::test::Fail;
+
+    #[test]
+    fn lists_grow(rt: HostRuntime) -> Result<(), Fail> {
+        let mut bytes = Bytes::from_vec(Vec::new(rt.alloc()));
+        bytes.push(7)?;
+        assert!(rt; bytes.as_slice() == [7].as_slice());
+        bytes.extend_from_slice(&[8, 9])?;
+        assert!(rt; bytes.as_slice() == [7, 8, 9].as_slice());
+        bytes.truncate(1);
+        assert!(rt; bytes.as_slice() == [7].as_slice());
+        let mut lists = ByteLists::from_vec(Vec::new(rt.alloc()));
+        lists.push(bytes)?;
+        assert!(rt; matches!(lists.as_slice(), [only] if only.as_slice() == [7].as_slice()));
+        Ok(())
+    }
+}

@@ -1,5 +1,0 @@
-use Rattle.page_list.proofs.ChainLemmas.{one_chain_holds}
-use Rattle.page_list.proofs.chain.one_chain.Goals as goal
-
-pub returns : goal.returns
-returns c = one_chain_holds

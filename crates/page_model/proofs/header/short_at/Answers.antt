@@ -1,9 +1,0 @@
-use Rattle.std.proofs.Common.{◌∙◌, ap, arith}
-use Rattle.std.proofs.lemmas.Slice.{between_to_end}
-use Rattle.byteorder.specs.Endian.{big_number}
-use Rattle.db_format.specs.Header.{number_at}
-use Rattle.page_model.proofs.header.short_at.Goals as goal
-
-pub returns : goal.returns
-unfolding number_at
-returns c = c.from.ensures ∙ c.read_u16.ensures ∙ ap (big_number 2) (between_to_end c.args.bytes.now c.args.place _ (omega arith))

@@ -1,5 +1,0 @@
-use Rattle.page_model.proofs.ReplaceLemmas.{leaf_replaced}
-use Rattle.page_model.proofs.laws.leaf_replaced.Goals as goal
-
-pub returns : goal.returns
-returns c = leaf_replaced

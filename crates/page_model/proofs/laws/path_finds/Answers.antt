@@ -1,5 +1,0 @@
-use Rattle.page_model.proofs.PathLemmas.{path_finds}
-use Rattle.page_model.proofs.laws.path_finds.Goals as goal
-
-pub returns : goal.returns
-returns c = path_finds

@@ -1,5 +1,0 @@
-use Rattle.page_model.proofs.WholeLemmas.{root_added}
-use Rattle.page_model.proofs.laws.root_added.Goals as goal
-
-pub returns : goal.returns
-returns c = root_added

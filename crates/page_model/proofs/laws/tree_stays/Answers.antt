@@ -1,5 +1,0 @@
-use Rattle.page_model.proofs.StayLemmas.{tree_stays}
-use Rattle.page_model.proofs.laws.tree_stays.Goals as goal
-
-pub returns : goal.returns
-returns c = tree_stays

@@ -1,5 +1,0 @@
-use Rattle.page_model.proofs.OthersLemmas.{whole_replaced}
-use Rattle.page_model.proofs.laws.whole_replaced.Goals as goal
-
-pub returns : goal.returns
-returns c = whole_replaced c.header_in_front.ensures

@@ -1,5 +1,0 @@
-use Rattle.page_model.proofs.WholeLemmas.{whole_stays}
-use Rattle.page_model.proofs.laws.whole_stays.Goals as goal
-
-pub returns : goal.returns
-returns c = whole_stays

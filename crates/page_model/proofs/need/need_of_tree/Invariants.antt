@@ -1,7 +1,0 @@
-use Rattle.std.proofs.Common.{◌≡◌, ◌+◌, ◌*◌, max, length, map, take}
-use Rattle.page_model.specs.Need.{chains_pages}
-use Rattle.page_model.proofs.need.need_of_tree.Given as goal
-
--- two pages for each row, and the chains of those so far
-abbrev pub invariant-loop-row : goal.invariant-loop-row
-invariant-loop-row l = l.count ≡ 2 * max 1 (length l.rows) + chains_pages l.usable (map (λ row. length row.payload) (take l.row-index l.rows))

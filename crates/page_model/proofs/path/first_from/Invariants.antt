@@ -1,6 +1,0 @@
-use Rattle.std.proofs.Common.{◌≡◌, drop}
-use Rattle.page_model.specs.Walk.{first_from}
-use Rattle.page_model.proofs.path.first_from.Given as goal
-
-abbrev pub invariant-loop-cell : goal.invariant-loop-cell
-invariant-loop-cell l = first_from l.key l.cells ≡ first_from l.key (drop l.cell-index l.cells)

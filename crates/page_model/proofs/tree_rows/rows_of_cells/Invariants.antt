@@ -1,8 +1,0 @@
-use Rattle.std.proofs.Common.{take}
-use Rattle.plain_pages.specs.Plain.{pages_of}
-use Rattle.page_model.specs.GatherSteps.{AreRowsOf}
-use Rattle.page_model.proofs.tree_rows.rows_of_cells.Given as goal
-
--- the rows of the cells so far
-abbrev pub invariant-loop-cell : goal.invariant-loop-cell
-invariant-loop-cell l = AreRowsOf (pages_of l.pages) (take l.cell-index l.cells) l.rows.items

@@ -1,6 +1,0 @@
-use Rattle.std.proofs.Common.{◌≡◌, ◌++◌, drop}
-use Rattle.page_model.specs.Walk.{all_children}
-use Rattle.page_model.proofs.walk.all_children.Given as goal
-
-abbrev pub invariant-loop-cell : goal.invariant-loop-cell
-invariant-loop-cell l = all_children l.cells l.right ≡ l.children ++ all_children (drop l.cell-index l.cells) l.right

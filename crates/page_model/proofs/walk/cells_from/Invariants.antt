@@ -1,7 +1,0 @@
-use Rattle.std.proofs.Common.{◌≡◌, ℕ, drop}
-use Rattle.page_model.specs.Walk.{children_from}
-use Rattle.page_model.specs.Steps.{from_of}
-use Rattle.page_model.proofs.walk.cells_from.Given as goal
-
-abbrev pub invariant-loop-at : goal.invariant-loop-at
-invariant-loop-at l = (right : ℕ) → children_from (from_of l.from) l.cells right ≡ children_from (from_of l.from) (drop l.at l.cells) right

@@ -1,8 +1,0 @@
-use Rattle.std.proofs.Common.{take}
-use Rattle.plain_pages.specs.Plain.{pages_of}
-use Rattle.page_model.specs.ForestSteps.{AreWholeWith}
-use Rattle.page_model.proofs.whole.whole_trees.Given as goal
-
--- the trees of the roots so far are whole
-abbrev pub invariant-loop-root : goal.invariant-loop-root
-invariant-loop-root l = AreWholeWith (pages_of l.pages) (take l.root-index l.roots) l.named.items

@@ -1,6 +1,0 @@
-use Rattle.plain_pages.specs.FreeSteps.{AreLeaves}
-use Rattle.plain_pages.proofs.freelist.leaves_of.Given as goal
-
--- the leaves so far
-abbrev pub invariant-loop-at : goal.invariant-loop-at
-invariant-loop-at l = AreLeaves l.bytes l.at l.leaves

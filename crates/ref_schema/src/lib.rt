@@ -1,0 +1,13 @@
+//! Whether a database is whole by its schema, computed plainly: the schema says which trees there are, and each row is
+//! a record. Only tests stand on it.
+//!
+//! After sqlite.org, "Database File Format", section 2.6.
+#![tactic(auto)]
+
+mod records;
+mod tables;
+#[cfg(test)]
+mod tests;
+mod whole;
+
+pub use whole::{LacksDatabase, is_whole};

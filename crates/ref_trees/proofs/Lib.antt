@@ -1,0 +1,11 @@
+pub mod GatherLemmas
+pub mod TreeRowLemmas
+pub mod HoldLemmas
+pub mod ForestLemmas
+pub mod HeaderLemmas
+pub mod EnterLemmas
+pub mod SearchLemmas
+pub mod RowLemmas
+pub mod KeptLemmas
+pub mod PathStepLemmas
+pub mod WalkStepLemmas

@@ -1,0 +1,6 @@
+pub mod Entered
+pub mod Gathered
+pub mod GatherSteps
+pub mod Forest
+pub mod ForestSteps
+pub mod Steps

@@ -1,0 +1,10 @@
+pub mod HeaderLemmas
+pub mod FrontLemmas
+pub mod RangeLemmas
+pub mod RootLemmas
+pub mod CountLemmas
+pub mod TakeLemmas
+pub mod SizeLemmas
+pub mod ReplaceLemmas
+pub mod NeedLemmas
+pub mod DeepLemmas

@@ -1,0 +1,4 @@
+pub mod Front
+pub mod Whole
+pub mod Caller
+pub mod Replace

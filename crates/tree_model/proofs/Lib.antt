@@ -1,0 +1,14 @@
+pub mod StayLemmas
+pub mod OneTreeLemmas
+pub mod IntLemmas
+pub mod RiseLemmas
+pub mod PathLemmas
+pub mod OnePathLemmas
+pub mod WalkLemmas
+pub mod OneWalkLemmas
+pub mod SizeLemmas
+pub mod WholeLemmas
+pub mod ReplaceLemmas
+pub mod FrontLemmas
+pub mod OthersLemmas
+pub mod OneWitnessLemmas

@@ -1,0 +1,4 @@
+pub mod RunLemmas
+pub mod LeafLemmas
+pub mod PutLemmas
+pub mod RootLemmas

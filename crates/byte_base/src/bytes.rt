@@ -2,13 +2,17 @@
 
 ghost use Rattle.std.specs.Prelude.{◌≡◌, ℕ, List, [], ◌∷◌, ◌++◌, take, IfOk, OnOk, OnErr};
 
+use smallvec::SmallVec;
 use std::alloc::{AllocError, Global};
 use std::marker::Model;
+
+/// How many bytes need no memory of their own: most values and small rows have no more.
+const INLINE: usize = 24;
 
 /// Bytes that own their memory. Contracts see them as a list.
 #[derive(Debug, Drop)]
 pub struct Bytes {
-    items: Vec<u8>,
+    items: SmallVec<u8, INLINE>,
 }
 
 impl Model for Bytes {
@@ -22,7 +26,9 @@ impl Bytes {
     pub fn from_vec(items: Vec<u8>) -> Bytes
         ensures { result ≡ items.items }
     {
-        Bytes { items }
+        Bytes {
+            items: SmallVec::from_vec(items),
+        }
     }
 
     /// A copy of some bytes.
@@ -30,7 +36,7 @@ impl Bytes {
         ensures { IfOk result (λ copy. copy ≡ bytes.now) }
     {
         Ok(Bytes {
-            items: Vec::from_slice(alloc, bytes)?,
+            items: SmallVec::from_slice(alloc, bytes)?,
         })
     }
 

@@ -466,11 +466,11 @@ fn leaf_of(alloc: Global, bytes: &[u8], spot: &LeafSpot) -> Result<LeafCell, All
     requires { spot.now.place + spot.now.size ≤ length bytes.now }
     ensures { IfOk result (λ cell. leaf cell ≡ cell_of bytes.now (Found.Leaf spot.now)) }
 {
-    let local = Vec::from_slice(alloc, &bytes[spot.place..spot.place + spot.size])?;
+    let local = Bytes::copy_of(alloc, &bytes[spot.place..spot.place + spot.size])?;
     Ok(LeafCell {
         rowid: spot.rowid,
         payload_len: spot.payload_len,
-        local: Bytes::from_vec(local),
+        local,
         overflow: spot.overflow,
     })
 }

@@ -8,8 +8,6 @@ mod mem_space;
 mod page;
 mod pool;
 mod space;
-#[cfg(test)]
-mod tests;
 mod write;
 
 pub use db_format::SpaceFault;

@@ -10,8 +10,6 @@
 mod free;
 mod laws;
 mod read;
-#[cfg(test)]
-mod tests;
 mod walk;
 mod write;
 

@@ -10,8 +10,6 @@ mod different;
 mod freelist;
 mod numbers;
 mod pages;
-#[cfg(test)]
-mod tests;
 mod words;
 
 pub use chain::{ChainEnd, chain_of, needed};

@@ -6,8 +6,6 @@
 
 mod records;
 mod tables;
-#[cfg(test)]
-mod tests;
 mod whole;
 
 pub use whole::{LacksDatabase, is_whole};

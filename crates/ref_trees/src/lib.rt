@@ -11,14 +11,10 @@ mod need;
 mod path;
 mod row;
 mod rows;
-#[cfg(test)]
-mod tests;
 mod tree;
 mod tree_rows;
 mod walk;
 mod whole;
-#[cfg(test)]
-mod whole_tests;
 
 pub use enter::cells_at;
 pub use need::{named_of, need_of, use_of};

@@ -1,4 +1,3 @@
 pub mod Front
 pub mod Whole
-pub mod Caller
 pub mod Replace

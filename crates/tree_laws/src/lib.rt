@@ -4,8 +4,6 @@
 
 mod front;
 mod replace;
-#[cfg(test)]
-mod tests;
 mod whole;
 
 pub use front::{header_size, header_stays, whole_front};

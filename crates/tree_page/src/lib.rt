@@ -9,8 +9,6 @@ mod marks;
 mod put;
 mod read;
 mod room;
-#[cfg(test)]
-mod tests;
 mod write;
 
 pub use cell::{InnerCell, InnerCells, LeafCell, LeafCells, PageCells};

@@ -1,18 +1,16 @@
 //! A small caller of a page space, proved by the laws and the contracts that every crate above has.
 
-ghost use Rattle.std.specs.Prelude.{◌≡◌, ◌≤◌, IsTrue, IfOk};
-ghost use Rattle.page_pool.specs.Memory.{mem_state};
+ghost use Rattle.std.specs.Prelude.{◌≤◌, IsTrue, IfOk};
 ghost use Rattle.page_pool.specs.Space.{IsWritable, Steady};
-ghost use Rattle.tree_laws.specs.Caller.{FitsAll, LeavesLeaf};
+ghost use Rattle.page_tests.specs.Caller.{FitsAll, LeavesLeaf};
 
-use crate::{header_size, whole_gives, whole_takes};
+use crate::spaces::database;
 use byte_base::u32_at;
-use db_format::new_header;
 use page_list::{give_keeps, take_keeps, taken_good};
-use page_pool::{MemSpace, PageSpace, SpaceFault, give_page, put_cleared, take_page};
+use page_pool::{PageSpace, SpaceFault, give_page, take_page};
 use std::alloc::Global;
-use std::process::Abort;
 use std::test::Fail;
+use tree_laws::{header_size, whole_gives, whole_takes};
 use tree_model::whole_stays;
 use tree_page::{LeafCells, PageCells, write_page};
 
@@ -46,25 +44,9 @@ fn leaf_and_back<S: PageSpace>(
     Ok(page)
 }
 
-/// A space of three pages of 512 bytes, with a header on page 1.
-fn database(rt: &impl Abort, alloc: Global) -> Result<MemSpace, Fail>
-    ensures pages { IfOk result (λ space. (mem_state space).pages.size ≡ 3) }
-    ensures usable { IfOk result (λ space. (mem_state space).pages.usable ≡ 512) }
-{
-    let mut space = MemSpace::new(alloc, 512, 0)?;
-    for _ in 0..3 {
-        space.grow()?;
-    }
-    assert!(rt; space.size() == 3 && space.page_size() == 512 && space.usable() == 512);
-    let mut first = [0; 512];
-    new_header(512, 0, &mut first);
-    put_cleared(&mut space, 1, &mut first)?;
-    Ok(space)
-}
-
 #[test]
 fn the_page_taken_last_is_free_again(rt: HostRuntime) -> Result<(), Fail> {
-    let mut space = database(&rt, rt.alloc())?;
+    let mut space = database(&rt, rt.alloc(), 3, 0)?;
     let cells = PageCells::Leaf(LeafCells::from_vec(Vec::new(rt.alloc())));
     let page = leaf_and_back(rt.alloc(), &mut space, &cells)?;
     assert!(rt; page == 4 && space.size() == 5 && space.page_size() == 512);

@@ -1,7 +1,7 @@
 use Rattle.std.proofs.Common.{ℕ, List, Result, Ok, Err, rules}
-use Rattle.page_pool.specs.Space.{SpaceState, PutLeaves}
 use Rattle.db_format.specs.declared.fault.SpaceFault.{SpaceFault}
-use Rattle.payload_chain.proofs.tests.flawed.FlawedPageSpace.put.Goals as goal
+use Rattle.page_pool.specs.Space.{SpaceState, PutLeaves}
+use Rattle.page_tests.proofs.spaces.FlawedPageSpace.put.Goals as goal
 
 -- another count of faults
 put_leaves : (old new : SpaceState) (before after number : ℕ) (content : List ℕ) (result : Result Unit SpaceFault) → PutLeaves old new number content result

@@ -22,8 +22,8 @@ use Rattle.tree_model.specs.Whole.{HasHeader, IsWholeFor, used_pages, named_page
 use Rattle.tree_model.specs.Laws.{Admits, WholeStays}
 use Rattle.tree_laws.specs.Front.{HeaderSize}
 use Rattle.tree_laws.specs.Whole.{WholeTakes, WholeGives}
-use Rattle.tree_laws.specs.Caller.{LeavesLeaf}
-use Rattle.tree_laws.proofs.tests.leaf_and_back.Goals as goal
+use Rattle.page_tests.specs.Caller.{LeavesLeaf}
+use Rattle.page_tests.proofs.leaf_callers.leaf_and_back.Goals as goal
 
 -- what the space says of its pages after every call
 record Fine (page_size usable : ℕ) (pages : Pages) : Type 0 where

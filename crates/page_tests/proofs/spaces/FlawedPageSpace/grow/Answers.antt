@@ -1,7 +1,7 @@
 use Rattle.std.proofs.Common.{ℕ, Result, Ok, Err, rules}
-use Rattle.page_pool.specs.Space.{SpaceState, GrowLeaves}
 use Rattle.db_format.specs.declared.fault.SpaceFault.{SpaceFault}
-use Rattle.payload_chain.proofs.tests.flawed.FlawedPageSpace.grow.Goals as goal
+use Rattle.page_pool.specs.Space.{SpaceState, GrowLeaves}
+use Rattle.page_tests.proofs.spaces.FlawedPageSpace.grow.Goals as goal
 
 -- another count of faults
 grow_leaves : (old new : SpaceState) (before after : ℕ) (result : Result ℕ SpaceFault) → GrowLeaves old new result

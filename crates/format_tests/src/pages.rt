@@ -1,7 +1,5 @@
-//! Pages read and written.
+//! Pages of trees, read and written.
 
-use crate::put::put;
-use crate::{InnerCell, InnerCells, LeafCell, LeafCells, PageCells, fits, read_page, write_page};
 use byte_base::{put_u16, u16_at};
 use db_format::{
     ByteLists, Bytes, Create, FormatFault, Header, Value, are_columns, is_identifier, local_size,
@@ -9,6 +7,9 @@ use db_format::{
 };
 use std::alloc::{AllocError, Global};
 use std::test::Fail;
+use tree_page::{
+    InnerCell, InnerCells, LeafCell, LeafCells, PageCells, fits, read_page, write_page,
+};
 
 /// Bytes that stand at a place.
 type Patch = (usize, &'static [u8]);
@@ -46,7 +47,7 @@ fn lay(page: &mut [u8], patches: &[Patch], farther: usize, lower: usize) {
             place.wrapping_sub(lower)
         };
         if at <= page.len() && patch.len() <= page.len() - at {
-            put(page, at, patch);
+            page[at..at + patch.len()].copy_from_slice(patch);
         }
     }
 }

@@ -1,10 +1,38 @@
-//! Spaces for tests: one that fails at a call, and one that keeps no pages.
+//! Spaces for tests: one in memory with a header, one that fails at a call, and one that keeps no pages.
 
-ghost use Rattle.std.specs.Prelude.{◌*◌, ◌≤◌, [], false, None, ⊤};
+ghost use Rattle.std.specs.Prelude.{◌≡◌, ◌*◌, ◌≤◌, [], false, None, ⊤, IfOk};
 ghost use Rattle.page_pool.specs.Memory.{mem_state};
 
-use crate::{MemSpace, PageSpace};
-use db_format::SpaceFault;
+use byte_base::put_u32;
+use db_format::new_header;
+use page_pool::{MemSpace, PageSpace, SpaceFault, put_cleared};
+use std::alloc::Global;
+use std::process::Abort;
+use std::test::Fail;
+
+/// A space of so many pages of 512 bytes, at least one, with a header on page 1 that names this first trunk.
+pub fn database(
+    rt: &impl Abort,
+    alloc: Global,
+    pages: u32,
+    first_trunk: u32,
+) -> Result<MemSpace, Fail>
+    ensures pages { IfOk result (λ space. (mem_state space).pages.size ≡ pages) }
+    ensures page_size { IfOk result (λ space. (mem_state space).page_size ≡ 512) }
+    ensures usable { IfOk result (λ space. (mem_state space).pages.usable ≡ 512) }
+{
+    let mut space = MemSpace::new(alloc, 512, 0)?;
+    for _ in 0..pages {
+        space.grow()?;
+    }
+    assert!(rt; pages > 0 && space.size() == pages);
+    assert!(rt; space.page_size() == 512 && space.usable() == 512);
+    let mut first = [0; 512];
+    new_header(512, 0, &mut first);
+    put_u32(&mut first, 32, first_trunk);
+    put_cleared(&mut space, 1, &mut first)?;
+    Ok(space)
+}
 
 /// A space in memory with one call among `get`, `put` and `grow` that fails, counted from 1, 0 for none.
 #[derive(Drop)]

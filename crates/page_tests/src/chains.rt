@@ -1,31 +1,14 @@
-//! What no clause says: that calls succeed, chains that were made by hand, and a device that fails.
+//! Overflow chains written, read and freed: that calls succeed, chains that were made by hand, and a device that fails.
 
-mod flawed;
-
-ghost use Rattle.std.specs.Prelude.{◌≡◌, IfOk};
-ghost use Rattle.page_pool.specs.Memory.{mem_state};
 ghost use Rattle.page_pool.specs.Space.{IsReady, IsWritable};
 
-use crate::{free_chain, local_size, read_chain, write_chain};
+use crate::spaces::{Flawed, database};
 use byte_base::{Bytes, put_u32, u32_at};
-use db_format::{SpaceFault, new_header};
-use flawed::Flawed;
-use page_pool::{MemSpace, PageSpace};
+use page_pool::{MemSpace, PageSpace, SpaceFault};
+use payload_chain::{free_chain, read_chain, write_chain};
 use std::alloc::Global;
 use std::process::Abort;
 use std::test::Fail;
-
-/// A space of so many pages of 512 bytes, with a header on page 1.
-fn database(rt: &impl Abort, alloc: Global, pages: u32) -> Result<MemSpace, Fail> {
-    let mut space = MemSpace::new(alloc, 512, 0)?;
-    for _ in 0..pages {
-        space.grow()?;
-    }
-    let mut first = [0; 512];
-    new_header(512, 0, &mut first);
-    put(rt, &mut space, 1, &first)?;
-    Ok(space)
-}
 
 /// Puts a page of 512 bytes.
 fn put(rt: &impl Abort, space: &mut MemSpace, number: u32, page: &[u8; 512]) -> Result<(), Fail> {
@@ -83,18 +66,9 @@ fn pattern(alloc: Global, len: usize) -> Result<Vec<u8>, Fail> {
 
 #[test]
 fn what_spills_is_written_read_and_freed(rt: HostRuntime) -> Result<(), Fail> {
-    let sizes = [
-        (512, 477, 477),
-        (512, 478, 39),
-        (512, 600, 92),
-        (4096, 4062, 489),
-    ];
-    for (usable, payload, local) in sizes {
-        assert_eq!(rt; local_size(usable, payload), local);
-    }
     // the length, the pages of the chain, and how many bytes the last of them holds
     for (len, pages, last) in [(508, 1, 508), (509, 2, 1), (65501, 129, 477)] {
-        let mut space = database(&rt, rt.alloc(), 1)?;
+        let mut space = database(&rt, rt.alloc(), 1, 0)?;
         let payload = pattern(rt.alloc(), len)?;
         assert_eq!(rt; write(&rt, rt.alloc(), &mut space, &payload), Ok(2));
         assert_eq!(rt; space.size(), 1 + pages);
@@ -119,7 +93,7 @@ fn told(
     first: u32,
     len: u64,
 ) -> Result<Result<(), SpaceFault>, Fail> {
-    let mut space = database(rt, alloc, 7)?;
+    let mut space = database(rt, alloc, 7, 0)?;
     for (number, next) in [(2, 3), (3, 4), (4, 0), (5, 6), (6, 5), (7, 8)] {
         let mut page = [7; 512];
         put_u32(&mut page, 0, next);
@@ -169,7 +143,7 @@ fn a_device_that_fails_is_told_once(rt: HostRuntime) -> Result<(), Fail> {
     for fails_in in 1..17 {
         // each of the three pages is taken by two calls, and put
         let mut flawed = Flawed {
-            space: database(&rt, rt.alloc(), 1)?,
+            space: database(&rt, rt.alloc(), 1, 0)?,
             fails_in,
             faults: 0,
         };

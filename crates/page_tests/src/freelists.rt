@@ -1,22 +1,20 @@
-//! What no clause says: that calls succeed, and that a call that failed half-way gives no page twice.
-
-mod spaces;
+//! Pages taken from the freelist and given to it: that calls succeed, and that a call that failed half-way gives no page
+//! twice.
 
 ghost use Rattle.std.specs.Prelude.{◌≡◌, IfOk};
 ghost use Rattle.page_pool.specs.Memory.{mem_state};
 ghost use Rattle.page_pool.specs.Space.{IsWritable};
 
-use crate::{MemSpace, PageSpace, give_page, put_cleared, take_page};
+use crate::spaces::{Counted, Flawed, database};
 use byte_base::put_u32;
-use db_format::{SpaceFault, new_header};
-use spaces::{Counted, Flawed};
+use page_pool::{MemSpace, PageSpace, SpaceFault, give_page, put_cleared, take_page};
 use std::alloc::Global;
 use std::process::Abort;
 use std::test::Fail;
 
 /// A space of four pages of 512 bytes, with a header on page 1 that names this first trunk, and on page 2 a trunk
 /// with so many leaves, each of them this one.
-fn database(
+fn with_trunk(
     rt: &impl Abort,
     alloc: Global,
     first_trunk: u32,
@@ -25,15 +23,7 @@ fn database(
 ) -> Result<MemSpace, Fail>
     ensures { IfOk result (λ space. (mem_state space).pages.size ≡ 4) }
 {
-    let mut space = MemSpace::new(alloc, 512, 0)?;
-    for _ in 0..4 {
-        space.grow()?;
-    }
-    assert!(rt; space.size() == 4 && space.page_size() == 512);
-    let mut first = [0; 512];
-    new_header(512, 0, &mut first);
-    put_u32(&mut first, 32, first_trunk);
-    put_cleared(&mut space, 1, &mut first)?;
+    let mut space = database(rt, alloc, 4, first_trunk)?;
     let mut page = [0; 512];
     put_u32(&mut page, 4, leaves);
     for place in 2..128 {
@@ -53,7 +43,7 @@ fn take<S: PageSpace>(rt: &impl Abort, alloc: Global, space: &mut S) -> Result<u
 
 #[test]
 fn freed_pages_are_taken_again(rt: HostRuntime) -> Result<(), Fail> {
-    let mut space = database(&rt, rt.alloc(), 0, 0, 0)?;
+    let mut space = with_trunk(&rt, rt.alloc(), 0, 0, 0)?;
     for number in [3, 4, 2] {
         give_page(rt.alloc(), &mut space, number)?;
     }
@@ -76,7 +66,7 @@ fn freelists_made_by_hand(rt: HostRuntime) -> Result<(), Fail> {
         (5, 1, 3, 0, 1),
     ];
     for (trunk, leaves, leaf, taken, malformed) in cases {
-        let mut space = database(&rt, rt.alloc(), trunk, leaves, leaf)?;
+        let mut space = with_trunk(&rt, rt.alloc(), trunk, leaves, leaf)?;
         match take(&rt, rt.alloc(), &mut space) {
             Ok(number) => assert!(rt; number == taken),
             Err(fault) => assert!(rt; fault == SpaceFault::Corrupt { page: malformed }),
@@ -89,7 +79,7 @@ fn freelists_made_by_hand(rt: HostRuntime) -> Result<(), Fail> {
 fn a_failed_call_gives_no_page_twice(rt: HostRuntime) -> Result<(), Fail> {
     // two calls read, the third one writes the trunk, and the fourth page 1
     for (fails_in, next) in [(1, 4), (2, 4), (3, 4), (4, 3)] {
-        let mut space = database(&rt, rt.alloc(), 0, 0, 0)?;
+        let mut space = with_trunk(&rt, rt.alloc(), 0, 0, 0)?;
         give_page(rt.alloc(), &mut space, 3)?;
         give_page(rt.alloc(), &mut space, 4)?;
         let mut flawed = Flawed {

@@ -1,10 +1,29 @@
 //! Texts of tables, read and written.
 
 use db_format::{ByteLists, Bytes, Create, are_columns, is_identifier, read_create, write_create};
+use std::alloc::{AllocError, Global};
+use std::process::Abort;
 use std::test::Fail;
 
+/// Whether this is the table `t1` of the columns `a` and `b_2`.
+fn is_table_t1(create: &Create) -> bool {
+    let [first, second] = create.columns.as_slice() else {
+        return false;
+    };
+    create.name.as_slice() == b"t1".as_slice()
+        && first.as_slice() == b"a".as_slice()
+        && second.as_slice() == b"b_2".as_slice()
+}
+
+/// Writes a table whose name and columns may be those of a plain table.
+fn written(rt: &impl Abort, alloc: Global, create: &Create) -> Result<Bytes, AllocError> {
+    assert!(rt; is_identifier(create.name.as_slice()));
+    assert!(rt; are_columns(create.columns.as_slice()));
+    write_create(alloc, create)
+}
+
 #[test]
-fn plain_texts_are_read_and_others_are_not(rt: HostRuntime) -> Result<(), Fail> {
+fn plain_texts_are_read(rt: HostRuntime) -> Result<(), Fail> {
     let texts: [&[u8]; 4] = [
         b"CREATE TABLE t1(a,b_2)",
         b"CREATE TABLE t1(a,b_2)   ",
@@ -13,19 +32,15 @@ fn plain_texts_are_read_and_others_are_not(rt: HostRuntime) -> Result<(), Fail> 
     ];
     for text in texts {
         let create = read_create(rt.alloc(), text)?.ok_or("plain")?;
-        assert!(rt; create.name.as_slice() == b"t1".as_slice(), "{text:?}");
-        let [first, second] = create.columns.as_slice() else {
-            return Err("two columns".into());
-        };
-        assert!(rt;
-            first.as_slice() == b"a".as_slice() && second.as_slice() == b"b_2".as_slice(),
-            "{text:?}"
-        );
-        assert!(rt; is_identifier(create.name.as_slice()));
-        assert!(rt; are_columns(create.columns.as_slice()));
-        let written = write_create(rt.alloc(), &create)?;
-        assert!(rt; written.as_slice() == texts[0], "{text:?}");
+        assert!(rt; is_table_t1(&create), "{text:?}");
+        let again = written(&rt, rt.alloc(), &create)?;
+        assert!(rt; again.as_slice() == texts[0], "{text:?}");
     }
+    Ok(())
+}
+
+#[test]
+fn other_texts_are_not_read(rt: HostRuntime) -> Result<(), Fail> {
     let others: [&[u8]; 19] = [
         b"",
         b"CREATE TABLE",
@@ -53,22 +68,26 @@ fn plain_texts_are_read_and_others_are_not(rt: HostRuntime) -> Result<(), Fail> 
     Ok(())
 }
 
+/// The columns `c0`, `c1` and so on.
+fn columns(alloc: Global, count: usize) -> Result<ByteLists, AllocError> {
+    let mut columns = ByteLists::from_vec(Vec::new(alloc));
+    for number in 0..count {
+        let name = format!(in alloc; "c{number}")?;
+        columns.push(Bytes::copy_of(alloc, name.as_bytes())?)?;
+    }
+    Ok(columns)
+}
+
 #[test]
 fn longest_table_is_written(rt: HostRuntime) -> Result<(), Fail> {
-    let alloc = rt.alloc();
     let longest = [b'n'; 64];
     assert!(rt; is_identifier(&longest) && !is_identifier(&[b'n'; 65]));
-    let mut columns = ByteLists::from_vec(Vec::new(alloc));
-    for number in 0..32 {
-        let name = format!(in alloc; "c{number}")?;
-        columns.push(Bytes::from_vec(Vec::from_slice(alloc, name.as_bytes())?))?;
-    }
-    assert!(rt; are_columns(columns.as_slice()));
-    let name = Bytes::from_vec(Vec::from_slice(alloc, &longest)?);
-    assert!(rt; is_identifier(name.as_slice()));
-    let create = Create { name, columns };
-    let text = write_create(alloc, &create)?;
-    let read = read_create(alloc, text.as_slice())?.ok_or("plain")?;
+    let create = Create {
+        name: Bytes::copy_of(rt.alloc(), &longest)?,
+        columns: columns(rt.alloc(), 32)?,
+    };
+    let text = written(&rt, rt.alloc(), &create)?;
+    let read = read_create(rt.alloc(), text.as_slice())?.ok_or("plain")?;
     assert!(rt; read.columns.as_slice().len() == 32);
     Ok(())
 }

@@ -64,6 +64,31 @@ fn pattern(alloc: Global, len: usize) -> Result<Vec<u8>, Fail> {
     Ok(bytes)
 }
 
+/// Sees that a chain holds just these bytes.
+fn see_bytes<S: PageSpace>(
+    rt: &impl Abort,
+    alloc: Global,
+    space: &mut S,
+    first: u32,
+    payload: &[u8],
+) -> Result<(), Fail>
+    requires { IsReady (S.state space.old) }
+{
+    let out = read(rt, alloc, space, first, payload.len() as u64)??;
+    let bytes = out.as_slice();
+    assert!(rt; bytes.len() == 3 + payload.len() && &bytes[3..] == payload);
+    Ok(())
+}
+
+/// Sees that a page ends a chain and holds so many of its bytes, and zeros behind them.
+fn see_last(rt: &impl Abort, space: &mut MemSpace, number: u32, count: usize) -> Result<(), Fail> {
+    let page = get(rt, space, number)?;
+    assert!(rt; 1 <= count && count <= 508);
+    assert!(rt; u32_at(&page, 0) == 0 && page[3 + count] != 0);
+    assert!(rt; page[4 + count..].iter().all(|byte| *byte == 0));
+    Ok(())
+}
+
 #[test]
 fn what_spills_is_written_read_and_freed(rt: HostRuntime) -> Result<(), Fail> {
     // the length, the pages of the chain, and how many bytes the last of them holds
@@ -72,11 +97,8 @@ fn what_spills_is_written_read_and_freed(rt: HostRuntime) -> Result<(), Fail> {
         let payload = pattern(rt.alloc(), len)?;
         assert_eq!(rt; write(&rt, rt.alloc(), &mut space, &payload), Ok(2));
         assert_eq!(rt; space.size(), 1 + pages);
-        let page = get(&rt, &mut space, 1 + pages)?;
-        assert!(rt; u32_at(&page, 0) == 0 && page[4 + last - 1] != 0);
-        assert!(rt; page[4 + last..].iter().all(|b| *b == 0));
-        let out = read(&rt, rt.alloc(), &mut space, 2, len as u64)??;
-        assert!(rt; out.as_slice().len() == 3 + len && &out.as_slice()[3..] == payload.as_slice());
+        see_last(&rt, &mut space, 1 + pages, last)?;
+        see_bytes(&rt, rt.alloc(), &mut space, 2, &payload)?;
         free_chain(rt.alloc(), &mut space, 2, len as u64)?;
         // the freelist gives what it was given, and the space does not grow
         write(&rt, rt.alloc(), &mut space, &payload)?;
@@ -137,36 +159,57 @@ fn chains_made_by_hand(rt: HostRuntime) -> Result<(), Fail> {
     Ok(())
 }
 
+/// Writes a chain of three pages, each of which is taken by two calls, and put, where one call fails.
+fn see_write(rt: &impl Abort, alloc: Global, flawed: &mut Flawed, fails_in: u32, payload: &[u8]) {
+    flawed.fails_in = fails_in;
+    let written = write(rt, alloc, flawed, payload);
+    let expected = if fails_in <= 9 {
+        Err(SpaceFault::Failed)
+    } else {
+        Ok(2)
+    };
+    assert_eq!(rt; written, expected, "write, {fails_in}");
+}
+
+/// Reads a chain of three pages where one call fails, and then where none does.
+fn see_read(
+    rt: &impl Abort,
+    alloc: Global,
+    flawed: &mut Flawed,
+    fails_in: u32,
+    first: u32,
+    payload: &[u8],
+) -> Result<(), Fail> {
+    flawed.fails_in = fails_in;
+    let out = read(rt, alloc, flawed, first, payload.len() as u64)?;
+    assert_eq!(rt; out.is_err(), fails_in <= 3, "read, {fails_in}");
+    flawed.fails_in = 0;
+    see_bytes(rt, alloc, flawed, first, payload)
+}
+
+/// Frees a chain of three pages where one call fails: each is read and given, the first by three calls, the others,
+/// which become its leaves, by four.
+fn see_free(rt: &impl Abort, alloc: Global, flawed: &mut Flawed, fails_in: u32, first: u32) {
+    flawed.fails_in = fails_in;
+    let freed = free_chain(alloc, flawed, first, 1500);
+    assert_eq!(rt; freed.is_err(), fails_in <= 14, "free, {fails_in}");
+}
+
 #[test]
 fn a_device_that_fails_is_told_once(rt: HostRuntime) -> Result<(), Fail> {
     let payload = pattern(rt.alloc(), 1500)?;
     for fails_in in 1..17 {
-        // each of the three pages is taken by two calls, and put
         let mut flawed = Flawed {
             space: database(&rt, rt.alloc(), 1, 0)?,
-            fails_in,
+            fails_in: 0,
             faults: 0,
         };
-        let written = write(&rt, rt.alloc(), &mut flawed, &payload);
-        let expected = if fails_in <= 9 {
-            Err(SpaceFault::Failed)
-        } else {
-            Ok(2)
-        };
-        assert_eq!(rt; written, expected, "write, {fails_in}");
-        // each is read, and what a refused call has taken is no part of the next chain
+        see_write(&rt, rt.alloc(), &mut flawed, fails_in, &payload);
+        // what a refused call has taken is no part of the next chain
         flawed.fails_in = 0;
         let first = write(&rt, rt.alloc(), &mut flawed, &payload)?;
-        flawed.fails_in = fails_in;
-        let out = read(&rt, rt.alloc(), &mut flawed, first, 1500)?;
-        assert_eq!(rt; out.is_err(), fails_in <= 3, "read, {fails_in}");
-        flawed.fails_in = 0;
-        let out = read(&rt, rt.alloc(), &mut flawed, first, 1500)??;
-        assert!(rt; out.as_slice().len() == 1503 && &out.as_slice()[3..] == payload.as_slice());
-        // each is read and given: the first by three calls, the others, which become its leaves, by four
-        flawed.fails_in = fails_in;
-        let freed = free_chain(rt.alloc(), &mut flawed, first, 1500);
-        assert_eq!(rt; freed.is_err(), fails_in <= 14, "free, {fails_in}");
+        see_read(&rt, rt.alloc(), &mut flawed, fails_in, first, &payload)?;
+        see_free(&rt, rt.alloc(), &mut flawed, fails_in, first);
     }
     Ok(())
 }

@@ -41,11 +41,24 @@ fn take<S: PageSpace>(rt: &impl Abort, alloc: Global, space: &mut S) -> Result<u
     take_page(alloc, space)
 }
 
+/// Gives a page that the space has.
+fn give<S: PageSpace>(
+    rt: &impl Abort,
+    alloc: Global,
+    space: &mut S,
+    number: u32,
+) -> Result<(), SpaceFault>
+    requires { IsWritable (S.state space.old) }
+{
+    assert!(rt; 1 <= number && number <= space.size());
+    give_page(alloc, space, number)
+}
+
 #[test]
 fn freed_pages_are_taken_again(rt: HostRuntime) -> Result<(), Fail> {
     let mut space = with_trunk(&rt, rt.alloc(), 0, 0, 0)?;
     for number in [3, 4, 2] {
-        give_page(rt.alloc(), &mut space, number)?;
+        give(&rt, rt.alloc(), &mut space, number)?;
     }
     for number in [2, 4, 3, 5] {
         assert!(rt; take(&rt, rt.alloc(), &mut space)? == number);
@@ -80,8 +93,8 @@ fn a_failed_call_gives_no_page_twice(rt: HostRuntime) -> Result<(), Fail> {
     // two calls read, the third one writes the trunk, and the fourth page 1
     for (fails_in, next) in [(1, 4), (2, 4), (3, 4), (4, 3)] {
         let mut space = with_trunk(&rt, rt.alloc(), 0, 0, 0)?;
-        give_page(rt.alloc(), &mut space, 3)?;
-        give_page(rt.alloc(), &mut space, 4)?;
+        give(&rt, rt.alloc(), &mut space, 3)?;
+        give(&rt, rt.alloc(), &mut space, 4)?;
         let mut flawed = Flawed {
             space,
             fails_in,
@@ -99,7 +112,7 @@ fn the_greatest_database_does_not_grow(rt: HostRuntime) -> Result<(), Fail> {
         pages: 2097151,
         changed: false,
     };
-    give_page(rt.alloc(), &mut space, 2097151)?;
+    give(&rt, rt.alloc(), &mut space, 2097151)?;
     assert!(rt; take(&rt, rt.alloc(), &mut space)? == 2097152);
     assert!(rt; space.grow() == Err(SpaceFault::Large { pages: 2097153 }));
     Ok(())

@@ -1,20 +1,10 @@
 //! Spaces of a few pages, laid out byte by byte: whole ones, and one for each way of not being whole.
 
-use crate::whole::Lacks;
-use crate::{RefPage, RefPages, is_whole_for, named_of, need_of, use_of};
-use db_format::Bytes;
-use std::alloc::{AllocError, Global};
+use crate::spelled::{Patch, Patches, ZEROS, space};
+use ref_trees::{Lacks, RefPages, is_whole_for, named_of, need_of, use_of};
+use std::alloc::Global;
 use std::process::Abort;
 use std::test::Fail;
-
-/// Bytes that stand at a place of a page.
-type Patch = (usize, &'static [u8]);
-
-/// Those of a page.
-type Patches = &'static [Patch];
-
-/// The size of each page.
-const SIZE: usize = 512;
 
 /// The header of a database of pages of 512 bytes, as sqlite.org says its fields; the size at 28 is left 0.
 const HEADER: Patch = (
@@ -23,6 +13,8 @@ const HEADER: Patch = (
 );
 
 const FORMAT: Patch = (40, b"\0\0\0\x01\0\0\0\x04\0\0\0\0\0\0\0\0\0\0\0\x01");
+
+const FIRST: Patches = &[HEADER, FORMAT];
 
 /// The b-tree page of page 1 with one row: the plain table `t` of one column, with its root on page 2.
 const SCHEMA_HEAD: Patch = (100, b"\x0d\0\0\0\x01\x01\xdf\0\x01\xdf");
@@ -98,41 +90,8 @@ const VERSION: Patches = &[NO_SCHEMA, (18, b"\x02")];
 
 const RESERVE: Patches = &[NO_SCHEMA, (20, b"\x01")];
 
-/// Pages of an empty leaf and of zeros.
+/// A page of an empty leaf.
 const EMPTY: Patches = &[EMPTY_LEAF];
-
-const ZEROS: Patches = &[];
-
-/// A page of zeros with bytes laid over it; one that is bad fails its checksum.
-fn page_of(alloc: Global, patches: &[Patch], bad: bool) -> Result<RefPage, AllocError> {
-    let mut page = vec![in alloc; 0; SIZE]?;
-    for (place, patch) in patches {
-        for (slot, byte) in page.iter_mut().skip(*place).zip(patch.iter()) {
-            *slot = *byte;
-        }
-    }
-    Ok(RefPage {
-        bytes: Bytes::from_vec(page),
-        bad: if bad { Some((1, 2)) } else { None },
-    })
-}
-
-/// Page 1 with these patches, and the pages behind it.
-fn space(
-    alloc: Global,
-    first: Patches,
-    others: &[Patches],
-    bad: usize,
-) -> Result<Option<RefPages>, AllocError> {
-    let mut pages = Vec::new(alloc);
-    let mut head = Vec::from_slice(alloc, &[HEADER, FORMAT])?;
-    head.extend_from_slice(first)?;
-    pages.push(page_of(alloc, &head, bad == 1)?)?;
-    for (at, patches) in others.iter().enumerate() {
-        pages.push(page_of(alloc, patches, at.wrapping_add(2) == bad)?)?;
-    }
-    Ok(RefPages::new(SIZE as u32, pages))
-}
 
 /// Sees that a space is whole for its roots, which pages it names, how many are in use, and how many they may need.
 fn see_whole(
@@ -153,14 +112,23 @@ fn see_whole(
 #[test]
 fn small_spaces_are_whole(rt: HostRuntime) -> Result<(), Fail> {
     let alloc = rt.alloc();
-    let table = space(alloc, TABLE, &[EMPTY], 0)?.ok_or("sized")?;
-    see_whole(&rt, &table, alloc, &[1, 2], &[1, 2], (2, 4))?;
-    let chain = space(alloc, PLAIN, &[SPILLS, ZEROS], 0)?.ok_or("sized")?;
-    see_whole(&rt, &chain, alloc, &[2], &[1, 2, 3], (3, 4))?;
-    let levels = space(alloc, PLAIN, &[INTERIOR, ROW_3, ROW_9], 0)?.ok_or("sized")?;
-    see_whole(&rt, &levels, alloc, &[2], &[1, 3, 2, 4], (4, 5))?;
-    let free = space(alloc, FREE, &[ROW_3, TRUNK, ZEROS], 0)?.ok_or("sized")?;
-    see_whole(&rt, &free, alloc, &[2], &[1, 2, 3, 4], (2, 3))
+    let cases: [(Patches, &[Patches], &[u32], &[u32], (usize, u64)); 4] = [
+        (TABLE, &[EMPTY], &[1, 2], &[1, 2], (2, 4)),
+        (PLAIN, &[SPILLS, ZEROS], &[2], &[1, 2, 3], (3, 4)),
+        (
+            PLAIN,
+            &[INTERIOR, ROW_3, ROW_9],
+            &[2],
+            &[1, 3, 2, 4],
+            (4, 5),
+        ),
+        (FREE, &[ROW_3, TRUNK, ZEROS], &[2], &[1, 2, 3, 4], (2, 3)),
+    ];
+    for (first, others, roots, named, counts) in cases {
+        let pages = space(alloc, FIRST, first, others, &[])?;
+        see_whole(&rt, &pages, alloc, roots, named, counts)?;
+    }
+    Ok(())
 }
 
 /// One space for each way of not being whole, and some for each kind of page.
@@ -169,44 +137,44 @@ fn each_lack_is_named(rt: HostRuntime) -> Result<(), Fail> {
     let alloc = rt.alloc();
     let tree = Lacks::Tree { root: 2 };
     let empty = Lacks::Empty { root: 2 };
-    let cases: [(Patches, &[Patches], usize, &[u32], Lacks); 16] = [
-        (PLAIN, &[], 1, &[], Lacks::Header),
-        (VERSION, &[], 0, &[], Lacks::Header),
-        (RESERVE, &[], 0, &[], Lacks::Header),
-        (PLAIN, &[], 0, &[2], tree),
-        (PLAIN, &[ROW_3], 2, &[2], tree),
-        (PLAIN, &[ZEROS], 0, &[2], tree),
-        (PLAIN, &[SPILLS, CHAIN_ON], 0, &[2], tree),
-        (PLAIN, &[LOOP], 0, &[2], tree),
+    let cases: [(Patches, &[Patches], &[u32], &[u32], Lacks); 16] = [
+        (PLAIN, &[], &[1], &[], Lacks::Header),
+        (VERSION, &[], &[], &[], Lacks::Header),
+        (RESERVE, &[], &[], &[], Lacks::Header),
+        (PLAIN, &[], &[], &[2], tree),
+        (PLAIN, &[ROW_3], &[2], &[2], tree),
+        (PLAIN, &[ZEROS], &[], &[2], tree),
+        (PLAIN, &[SPILLS, CHAIN_ON], &[], &[2], tree),
+        (PLAIN, &[LOOP], &[], &[2], tree),
         (
             PLAIN,
             &[INTERIOR, ROW_9, ROW_9],
-            0,
+            &[],
             &[2],
             Lacks::Order { root: 2 },
         ),
         (
             PLAIN,
             &[INTERIOR, ROW_3, ONE_CHILD_5, ROW_9],
-            0,
+            &[],
             &[2],
             Lacks::Depth { root: 2 },
         ),
-        (PLAIN, &[ONE_CHILD, ROW_3], 0, &[2], empty),
-        (PLAIN, &[INTERIOR, ROW_3, EMPTY], 0, &[2], empty),
-        (PLAIN, &[ROWS_3_9], 0, &[2, 2], Lacks::Twice { page: 2 }),
-        (BEYOND, &[], 0, &[], Lacks::Freelist),
+        (PLAIN, &[ONE_CHILD, ROW_3], &[], &[2], empty),
+        (PLAIN, &[INTERIOR, ROW_3, EMPTY], &[], &[2], empty),
+        (PLAIN, &[ROWS_3_9], &[], &[2, 2], Lacks::Twice { page: 2 }),
+        (BEYOND, &[], &[], &[], Lacks::Freelist),
         (
             FREE,
             &[ROW_3, TRUNK, ZEROS],
-            4,
+            &[4],
             &[2],
             Lacks::BadFree { page: 4 },
         ),
-        (FEWER, &[ROW_3, TRUNK, ZEROS], 0, &[2], Lacks::Count),
+        (FEWER, &[ROW_3, TRUNK, ZEROS], &[], &[2], Lacks::Count),
     ];
     for (first, others, bad, roots, lacks) in cases {
-        let pages = space(alloc, first, others, bad)?.ok_or("sized")?;
+        let pages = space(alloc, FIRST, first, others, bad)?;
         assert!(rt;
             is_whole_for(alloc, &pages, roots)? == Err(lacks),
             "{lacks:?}"

@@ -135,33 +135,39 @@ fn are(trunks: &[RefTrunk], wanted: &[(u32, &[u32])]) -> bool {
             && trunk.leaves() == says.1)
 }
 
+/// Whether pages have a freelist with just these trunks, or none.
+fn lists(
+    alloc: Global,
+    first: Patches,
+    others: &[Patches],
+    wanted: Option<&[(u32, &[u32])]>,
+) -> Result<bool, Fail> {
+    let pages = space(alloc, first, &[], others, &[])?;
+    match freelist_of(alloc, &pages)? {
+        Some(trunks) => Ok(wanted.is_some_and(|wanted| are(&trunks, wanted))),
+        None => Ok(wanted.is_none()),
+    }
+}
+
 #[test]
 fn freelists_from_page_1(rt: HostRuntime) -> Result<(), Fail> {
-    let lists: [(Patches, &[Patches], &[(u32, &[u32])]); 3] = [
-        (ZEROS, &[ENDS_WITH_4], &[]),
-        (FREE_FROM_2, &[ZEROS], &[(2, &[])]),
+    let cases: [(Patches, &[Patches], Option<&[(u32, &[u32])]>); 9] = [
+        (ZEROS, &[ENDS_WITH_4], Some(&[])),
+        (FREE_FROM_2, &[ZEROS], Some(&[(2, &[])])),
         (
             FREE_FROM_2,
             &[TO_3_WITH_4, ZEROS, ZEROS],
-            &[(2, &[4]), (3, &[])],
+            Some(&[(2, &[4]), (3, &[])]),
         ),
+        (FREE_FROM_9, &[ZEROS], None),
+        (FREE_FROM_2, &[BACK_TO_2], None),
+        (FREE_FROM_2, &[ENDS_WITH_4, ZEROS], None),
+        (FREE_FROM_2, &[ENDS_WITH_1, ZEROS], None),
+        (FREE_FROM_2, &[ENDS_WITH_127, ZEROS, ZEROS], None),
+        (FREE_FROM_2, &[TO_3_WITH_4, ENDS_WITH_4, ZEROS], None),
     ];
-    for (first, others, wanted) in lists {
-        let pages = space(rt.alloc(), first, &[], others, &[])?;
-        let trunks = freelist_of(rt.alloc(), &pages)?.ok_or("no freelist")?;
-        assert!(rt; are(&trunks, wanted));
-    }
-    let none: [(Patches, &[Patches]); 6] = [
-        (FREE_FROM_9, &[ZEROS]),
-        (FREE_FROM_2, &[BACK_TO_2]),
-        (FREE_FROM_2, &[ENDS_WITH_4, ZEROS]),
-        (FREE_FROM_2, &[ENDS_WITH_1, ZEROS]),
-        (FREE_FROM_2, &[ENDS_WITH_127, ZEROS, ZEROS]),
-        (FREE_FROM_2, &[TO_3_WITH_4, ENDS_WITH_4, ZEROS]),
-    ];
-    for (first, others) in none {
-        let pages = space(rt.alloc(), first, &[], others, &[])?;
-        assert!(rt; freelist_of(rt.alloc(), &pages)?.is_none());
+    for (first, others, wanted) in cases {
+        assert!(rt; lists(rt.alloc(), first, others, wanted)?, "{wanted:?}");
     }
     Ok(())
 }

@@ -134,6 +134,23 @@ fn rows_are_found_and_walked_over(rt: HostRuntime) -> Result<(), Fail> {
     Ok(())
 }
 
+/// Whether the search for row 5 of damaged pages ends with this fault, and so does the walk over all, with these rows
+/// before.
+fn stops(
+    alloc: Global,
+    spelled: &[Patches],
+    marked: &[u32],
+    root: u32,
+    fault: Fault,
+    rows: &[(i64, u8)],
+) -> Result<bool, Fail> {
+    let pages = space(alloc, ZEROS, &[], spelled, marked)?;
+    let ended = finds(alloc, &pages, root, 5, None, Err(fault))?;
+    let all = (i64::MIN, i64::MAX);
+    let stopped = walks(alloc, &pages, root, all, rows, WalkEnd::StopsAt(fault))?;
+    Ok(ended && stopped)
+}
+
 /// Where the search for row 5, and the walk over all, of damaged trees end, with the rows that the walk gives before.
 #[test]
 fn damaged_trees_name_a_page(rt: HostRuntime) -> Result<(), Fail> {
@@ -195,11 +212,8 @@ fn damaged_trees_name_a_page(rt: HostRuntime) -> Result<(), Fail> {
         (&[ODD_ROWS], &[], 0, Fault::Broken(0), &[]),
     ];
     for (spelled, marked, root, fault, rows) in cases {
-        let pages = space(rt.alloc(), ZEROS, &[], spelled, marked)?;
-        let ended = finds(rt.alloc(), &pages, root, 5, None, Err(fault))?;
-        let all = (i64::MIN, i64::MAX);
-        let stopped = walks(rt.alloc(), &pages, root, all, rows, WalkEnd::StopsAt(fault))?;
-        assert!(rt; ended && stopped, "{ended}, {stopped}: {fault:?}");
+        let stopped = stops(rt.alloc(), spelled, marked, root, fault, rows)?;
+        assert!(rt; stopped, "{fault:?}");
     }
     Ok(())
 }
@@ -259,6 +273,17 @@ const GOES_ON: Patches = &[(0, b"\x00\x00\x00\x03u")];
 
 const TO_NONE: Patches = &[(0, b"\x00\x00\x00\x00s")];
 
+/// Whether the search for row 1, whose chain is broken, ends with this fault, and so do the walks that end before it
+/// and behind it.
+fn breaks(alloc: Global, spelled: &[Patches], marked: &[u32], fault: Fault) -> Result<bool, Fail> {
+    let pages = space(alloc, ZEROS, &[], spelled, marked)?;
+    let ended = finds(alloc, &pages, 2, 1, None, Err(fault))?;
+    let end = WalkEnd::StopsAt(fault);
+    let before = walks(alloc, &pages, 2, (0, 0), &[], end)?;
+    let over = walks(alloc, &pages, 2, (0, 9), &[], end)?;
+    Ok(ended && before && over)
+}
+
 /// Also where the row is past the last rowid of the walk.
 #[test]
 fn broken_chains_name_a_page(rt: HostRuntime) -> Result<(), Fail> {
@@ -278,15 +303,8 @@ fn broken_chains_name_a_page(rt: HostRuntime) -> Result<(), Fail> {
         (&[SPILLS, TO_FOUR], &[], Fault::Broken(3)),
     ];
     for (spelled, marked, fault) in cases {
-        let pages = space(rt.alloc(), ZEROS, &[], spelled, marked)?;
-        let ended = finds(rt.alloc(), &pages, 2, 1, None, Err(fault))?;
-        let end = WalkEnd::StopsAt(fault);
-        let before = walks(rt.alloc(), &pages, 2, (0, 0), &[], end)?;
-        let over = walks(rt.alloc(), &pages, 2, (0, 9), &[], end)?;
-        assert!(rt;
-            ended && before && over,
-            "{ended}, {before}, {over}: {fault:?}"
-        );
+        let broken = breaks(rt.alloc(), spelled, marked, fault)?;
+        assert!(rt; broken, "{fault:?}");
     }
     Ok(())
 }

@@ -128,8 +128,11 @@ const ENDS_WITH_127: Patches = &[(0, b"\x00\x00\x00\x00\x00\x00\x00\x7f\x00\x00\
 
 const BACK_TO_2: Patches = &[(0, b"\x00\x00\x00\x02")];
 
-/// Whether these are the trunks, each a number and its leaves.
-fn are(trunks: &[RefTrunk], wanted: &[(u32, &[u32])]) -> bool {
+/// Trunks, each a number and its leaves.
+type Trunks = &'static [(u32, &'static [u32])];
+
+/// Whether these are the trunks.
+fn are(trunks: &[RefTrunk], wanted: Trunks) -> bool {
     trunks.len() == wanted.len()
         && trunks.iter().zip(wanted).all(|(trunk, says)| trunk.number() == says.0
             && trunk.leaves() == says.1)
@@ -140,18 +143,21 @@ fn lists(
     alloc: Global,
     first: Patches,
     others: &[Patches],
-    wanted: Option<&[(u32, &[u32])]>,
+    wanted: Option<Trunks>,
 ) -> Result<bool, Fail> {
     let pages = space(alloc, first, &[], others, &[])?;
-    match freelist_of(alloc, &pages)? {
-        Some(trunks) => Ok(wanted.is_some_and(|wanted| are(&trunks, wanted))),
-        None => Ok(wanted.is_none()),
+    let Some(trunks) = freelist_of(alloc, &pages)? else {
+        return Ok(wanted.is_none());
+    };
+    match wanted {
+        Some(wanted) => Ok(are(&trunks, wanted)),
+        None => Ok(false),
     }
 }
 
 #[test]
 fn freelists_from_page_1(rt: HostRuntime) -> Result<(), Fail> {
-    let cases: [(Patches, &[Patches], Option<&[(u32, &[u32])]>); 9] = [
+    let cases: [(Patches, &[Patches], Option<Trunks>); 9] = [
         (ZEROS, &[ENDS_WITH_4], Some(&[])),
         (FREE_FROM_2, &[ZEROS], Some(&[(2, &[])])),
         (

@@ -6,9 +6,11 @@
 
 mod ends;
 mod laws;
+mod level;
 
 pub use ends::{Fault, Next, PathEnd, WalkEnd};
 pub use laws::{
     leaf_replaced, one_path, one_tree, one_walk, one_witness, path_finds, root_added, rows_rise,
     tree_stays, walk_gives, whole_replaced, whole_stays,
 };
+pub use level::Level;

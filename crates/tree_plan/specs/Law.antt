@@ -12,7 +12,7 @@ use Rattle.page_cut.specs.declared.parts.Sheet.{Sheet}
 use Rattle.page_cut.specs.declared.parts.Sheets.{Sheets}
 use Rattle.tree_level.specs.Level.{numbers, up_cells, Has, Instead}
 use Rattle.tree_plan.specs.declared.leaf.LeafPlan.{LeafPlan}
-use Rattle.tree_plan.specs.declared.level.Level.{Level}
+use Rattle.tree_model.specs.declared.level.Level.{Level}
 use Rattle.tree_plan.specs.Plan.{put_cell, IsLeafPlan, IsInnerPlan}
 
 -- the chain of the row of this rowid, and the rows without it

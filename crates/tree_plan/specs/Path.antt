@@ -10,7 +10,7 @@ use Rattle.tree_run.specs.Run.{IsRun, one, over, Behind, within, bound, behind_p
 use Rattle.page_cut.specs.declared.parts.Sheet.{Sheet}
 use Rattle.page_cut.specs.declared.parts.Sheets.{Sheets}
 use Rattle.tree_level.specs.Level.{numbers, up_cells, Has, Instead}
-use Rattle.tree_plan.specs.declared.level.Level.{Level}
+use Rattle.tree_model.specs.declared.level.Level.{Level}
 use Rattle.tree_plan.specs.Plan.{IsInnerPlan}
 use Rattle.tree_plan.specs.Law.{AreOn}
 

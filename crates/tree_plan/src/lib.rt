@@ -9,5 +9,5 @@ mod number;
 
 pub use laws::{inner_planned, leaf_planned, path_planned, row_put};
 pub use leaf::{LeafPlan, plan_leaf};
-pub use level::{Level, plan_inner};
+pub use level::plan_inner;
 pub use number::number_sheets;

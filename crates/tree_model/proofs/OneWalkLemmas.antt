@@ -6,7 +6,7 @@ use Rattle.tree_page.specs.declared.cell.LeafCell.{LeafCell}
 use Rattle.tree_page.specs.declared.cell.InnerCell.{InnerCell}
 use Rattle.tree_model.specs.Whole.{below_all, most_depth}
 use Rattle.tree_model.specs.Walk.{Fault, Next, Found, Nothing, Meets, in_leaf, first_from, children_from, FirstOf, Seeks, NextFrom, WalkEnd, StopsAt, IsPast, IsLast, IsNext, IsReadable, WalksFrom}
-use Rattle.tree_model.specs.Laws.{OneWalk}
+use Rattle.tree_model.specs.Laws.{OneWalk, OneNext}
 use Rattle.tree_model.proofs.OneTreeLemmas.{leaf_cells, inner_cells, right_most}
 use Rattle.tree_model.proofs.OnePathLemmas.{Known, fault_once, no_fault, same_cells, leaf_not_inner, readable_once, not_both, unreadable_once}
 
@@ -111,3 +111,6 @@ one_walk known columns pages root low high rows more a b (inl p) (inl q) = (p.1 
 one_walk known columns pages root low high rows more a b (inl p) (inr q) = clash_ℤ p.0 q.0
 one_walk known columns pages root low high rows more a b (inr p) (inl q) = clash_ℤ q.0 p.0
 one_walk known columns pages root low high rows more a b (inr p) (inr q) = walks_once known columns pages root high low rows more a b p.1 q.1
+
+pub one_next : Known → OneNext
+one_next known = record { once = next_once known; read_once = readable_once known; not_both = not_both known }

@@ -7,9 +7,9 @@ use Rattle.tree_page.specs.declared.cell.LeafCell.{LeafCell}
 use Rattle.tree_page.specs.declared.cell.InnerCell.{InnerCell}
 use Rattle.tree_model.specs.Tree.{Row, Tree, Leaf, Child, Right, rowid, root_of, rows_of, IsOrdered, HasDepth}
 use Rattle.tree_model.specs.Held.{HasRow, HoldsBehind, Holds}
-use Rattle.tree_model.specs.Whole.{below_all, greatest, most_depth}
+use Rattle.tree_model.specs.Whole.{below_all, greatest, most_depth, IsWholeTree}
 use Rattle.tree_model.specs.Walk.{Next, Found, Nothing, in_leaf, first_from, all_children, children_from, FirstOf, Seeks, NextFrom, IsReadable, End, IsNext, WalksFrom}
-use Rattle.tree_model.specs.Laws.{Rises, AreAccepted, shown, rows_between, WalkGives}
+use Rattle.tree_model.specs.Laws.{Rises, AreAccepted, shown, first_row, rows_between, WalkGives, MeetsRow, NextGives}
 use Rattle.tree_model.proofs.IntLemmas.{by_le, le_is, not_le_is, antisym_ℤ, le_lt_ℤ, le_trans_ℤ, lt_le_ℤ, next_ℤ}
 use Rattle.tree_model.proofs.RiseLemmas.{rows_rise, bounds_rise}
 use Rattle.tree_model.proofs.PathLemmas.{all_weaker, all_append, rows_within, last_of, IsInner, inner_behind, inner_top, no_depth}
@@ -20,11 +20,6 @@ lt_le_trans a b c h k = grind (arith, h, k)
 
 below_next : (z : ℤ) → z <ℤ (z +ℤ pos 1)
 below_next z = grind arith
-
--- the first row whose rowid is at least a key
-abbrev pub first_row : ℤ → List Row → Option Row
-first_row key [] = None
-first_row key (row ∷ more) = if int_le key (rowid row) then Some row else first_row key more
 
 first_here : (key : ℤ) (row : Row) (more : List Row) → key ≤ℤ rowid row → first_row key (row ∷ more) ≡ Some row
 first_here key row more a = grind (arith, le_is key (rowid row) a)
@@ -55,26 +50,26 @@ first_past key [] ys less = refl
 first_past key (x ∷ xs) ys less = first_later key x (xs ++ ys) less.0 ∙ first_past key xs ys less.1
 
 -- what a search meets is the cell of this row, on some leaf, or nothing
-abbrev pub MeetsRow : Next → Option Row → Type 0
-MeetsRow next None = next ≡ Nothing
-MeetsRow next (Some row) = (leaf : ℕ) × (next ≡ Found leaf row.cell)
+abbrev pub MeetsCell : Next → Option Row → Type 0
+MeetsCell next None = next ≡ Nothing
+MeetsCell next (Some row) = (leaf : ℕ) × (next ≡ Found leaf row.cell)
 
-meets_at : (next : Next) (a b : Option Row) → a ≡ b → MeetsRow next a → MeetsRow next b
-meets_at next a b e m = let P : Option Row → Type 0 = MeetsRow next in subst P e m
+meets_at : (next : Next) (a b : Option Row) → a ≡ b → MeetsCell next a → MeetsCell next b
+meets_at next a b e m = let P : Option Row → Type 0 = MeetsCell next in subst P e m
 
-leaf_meets : (page : ℕ) (key : ℤ) (rows : List Row) → MeetsRow (in_leaf page (first_from key (map (λ row. row.cell) rows))) (first_row key rows)
+leaf_meets : (page : ℕ) (key : ℤ) (rows : List Row) → MeetsCell (in_leaf page (first_from key (map (λ row. row.cell) rows))) (first_row key rows)
 leaf_meets page key [] = refl
 leaf_meets page key (row ∷ more) =
-    let P : Bool → Type 0 = λ t. MeetsRow (in_leaf page (if t then Some row.cell else first_from key (map (λ r. r.cell) more))) (if t then Some row else first_row key more) in
+    let P : Bool → Type 0 = λ t. MeetsCell (in_leaf page (if t then Some row.cell else first_from key (map (λ r. r.cell) more))) (if t then Some row else first_row key more) in
     by_le key (rowid row)
     (λ a. subst P (sym (le_is key (rowid row) a)) (page, refl))
     (λ a. subst P (sym (not_le_is key (rowid row) a)) (leaf_meets page key more))
 
 abbrev pub SeeksRow : ℕ → Pages → ℤ → ℕ → ℤ → ℕ → List Row → Type 0
-SeeksRow left pages key above from page rows = (next : Next) × Seeks left pages key above from page next × MeetsRow next (first_row key rows)
+SeeksRow left pages key above from page rows = (next : Next) × Seeks left pages key above from page next × MeetsCell next (first_row key rows)
 
 abbrev pub FirstRowOf : ℕ → Pages → ℤ → ℕ → ℤ → List ℕ → List Row → Type 0
-FirstRowOf left pages key page from children rows = (next : Next) × FirstOf (Seeks left pages key page) from children next × MeetsRow next (first_row key rows)
+FirstRowOf left pages key page from children rows = (next : Next) × FirstOf (Seeks left pages key page) from children next × MeetsCell next (first_row key rows)
 
 found_not_nothing : (leaf : ℕ) (cell : LeafCell) → Found leaf cell ≢ Nothing
 found_not_nothing leaf cell e = cc
@@ -84,7 +79,7 @@ one_child : (left : ℕ) (pages : Pages) (key : ℤ) (page : ℕ) (from : ℤ) (
     → SeeksRow left pages key page from child xs → FirstRowOf left pages key page below_all more ys → FirstRowOf left pages key page from (child ∷ more) (xs ++ ys)
 one_child left pages key page from child more xs ys here behind = by (first_row key xs) refl here.2
   where
-    by : (o : Option Row) → first_row key xs ≡ o → MeetsRow here.0 o → FirstRowOf left pages key page from (child ∷ more) (xs ++ ys)
+    by : (o : Option Row) → first_row key xs ≡ o → MeetsCell here.0 o → FirstRowOf left pages key page from (child ∷ more) (xs ++ ys)
     by None e m =
         let P : Next → Type 0 = λ n. Seeks left pages key page from child n in
         (behind.0, inr (subst P m here.1, behind.1), meets_at behind.0 _ _ (sym (first_none key xs ys e)) behind.2)
@@ -212,7 +207,7 @@ same_between low low' high last (row ∷ more) less less' rise =
 
 -- what a search from a key on meets in a whole tree
 abbrev pub Sought : Pages → ℕ → Tree → Type 0
-Sought pages root tree = (key : ℤ) → below_all ≤ℤ key → (next : Next) × NextFrom pages root key next × MeetsRow next (first_row key (rows_of tree))
+Sought pages root tree = (key : ℤ) → below_all ≤ℤ key → (next : Next) × NextFrom pages root key next × MeetsCell next (first_row key (rows_of tree))
 
 -- these rows of a tree were passed, all below a key, and these are left, all above a last one
 pub record Passed (columns : Option ℕ) (pages : Pages) (tree : Tree) (key last : ℤ) (done rows : List Row) : Type 0 where
@@ -284,12 +279,39 @@ walks columns pages root tree sought high key last done (row ∷ more) p =
     (λ less. subst P (sym (between_below key high row more less))
     (walks columns pages root tree sought high key (rowid row) (done ++ row ∷ []) more (pass columns pages tree key key last done row more p (≤ℤ_refl key) less)))
 
+whole_sought : (pages : Pages) (root : ℕ) (tree : Tree) → IsWholeTree pages root tree → Sought pages root tree
+whole_sought pages root tree whole key least =
+    let P : ℕ → Type 0 = λ n. (next : Next) × Seeks most_depth pages key n key n next × MeetsCell next (first_row key (rows_of tree)) in
+    let top = (seeks_all pages tree).top most_depth whole.depth (root_of tree) below_all greatest key key whole.shallow whole.level whole.held bounds_rise in
+    subst P whole.rooted (top whole.ordered (≤ℤ_refl key) least)
+
+-- the first row is one of them
+first_held : (P : Row → Type 0) (key : ℤ) (rows : List Row) (row : Row) → AllByRecursion P rows → first_row key rows ≡ Some row → P row
+first_held P key [] row all is = absurd (none_some row is)
+  where
+    none_some : (row : Row) → ¬ (None ≡ Some row)
+    none_some row e = cc
+first_held P key (r ∷ rows) row all is = by_le key (rowid r)
+    (λ a. subst P (some_once r row (sym (first_here key r rows a) ∙ is)) all.0)
+    (λ a. first_held P key rows row all.1 (sym (first_later key r rows a) ∙ is))
+  where
+    some_once : (a b : Row) → Some a ≡ Some b → a ≡ b
+    some_once a b e = cc
+
+meets_first : (pages : Pages) (root : ℕ) (key : ℤ) (rows : List Row) (next : Next) (first : Option Row) → first_row key rows ≡ first → AllByRecursion (HasRow pages) rows
+    → NextFrom pages root key next → MeetsCell next first → MeetsRow pages root key first
+meets_first pages root key rows next None is held sought meets = subst (λ (n : Next). NextFrom pages root key n) meets sought
+meets_first pages root key rows next (Some row) is held sought meets =
+    (first_held (HasRow pages) key rows row held is, (meets.0, subst (λ (n : Next). NextFrom pages root key n) meets.1 sought))
+
+pub next_gives : NextGives
+next_gives pages root tree key whole least =
+    let found = whole_sought pages root tree whole key least in
+    meets_first pages root key (rows_of tree) found.0 (first_row key (rows_of tree)) refl (rows_held pages [] tree whole.held) found.1 found.2
+
 pub walk_gives : WalkGives
 walk_gives columns pages root tree low high whole accepted above =
-    let sought : Sought pages root tree = λ key least.
-    let P : ℕ → Type 0 = λ n. (next : Next) × Seeks most_depth pages key n key n next × MeetsRow next (first_row key (rows_of tree)) in
-    let top = (seeks_all pages tree).top most_depth whole.depth (root_of tree) below_all greatest key key whole.shallow whole.level whole.held bounds_rise in
-    subst P whole.rooted (top whole.ordered (≤ℤ_refl key) least) in
+    let sought : Sought pages root tree = whole_sought pages root tree whole in
     let passed : Passed columns pages tree low below_all [] (rows_of tree) = record {
       least = lt_le_ℤ _ _ above;
       split = refl;

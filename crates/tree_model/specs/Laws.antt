@@ -1,17 +1,18 @@
 -- What follows from the definitions of trees and whole pages alone.
-use Rattle.std.specs.Prelude.{◌≡◌, ◌⊎◌, ℕ, ◌+◌, ◌*◌, ◌≤◌, nat_eq, if◌then◌else◌, ℤ, ◌<ℤ◌, int_le, ◌&&◌, List, [], ◌∷◌, ◌++◌, map, take, Option, ⊤}
+use Rattle.std.specs.Prelude.{◌≡◌, ◌⊎◌, ℕ, ◌+◌, ◌*◌, ◌≤◌, nat_eq, if◌then◌else◌, ℤ, ◌<ℤ◌, ◌≤ℤ◌, int_le, ◌&&◌, List, [], ◌∷◌, ◌++◌, map, take, Option, Some, None, ⊤}
 use Rattle.std.specs.List.{flat_map, AllByRecursion}
 use Rattle.page_list.specs.Pages.{Pages, HasPage, IsGood, SamePage, times, Among, AllDifferent}
 use Rattle.page_list.specs.Freelist.{Trunk}
 use Rattle.db_format.specs.Header.{page_of, greatest_length}
 use Rattle.db_format.specs.Schema.{Table}
 use Rattle.db_format.specs.declared.value.Value.{Value}
+use Rattle.tree_page.specs.declared.cell.LeafCell.{LeafCell}
 use Rattle.tree_page.specs.declared.cell.PageCells.TheVariants.{Leaf as LeafPage}
 use Rattle.tree_model.specs.Tree.{Row, Tree, Leaf, Child, Right, rowid, root_of, rows_of, pages_of, Within, with_leaf}
 use Rattle.tree_model.specs.Held.{HasCells, HasRow, Holds}
 use Rattle.tree_model.specs.Whole.{below_all, greatest, IsWholeTree, IsWholeFor, named_pages, unsized_header}
 use Rattle.tree_model.specs.Database.{IsWholeDatabase}
-use Rattle.tree_model.specs.Walk.{Accepts, PathEnd, HasPayload, NoRow, Path, WalkEnd, End, Walk}
+use Rattle.tree_model.specs.Walk.{Accepts, IsReadable, IsUnreadable, Fault, PathEnd, HasPayload, NoRow, Path, WalkEnd, End, Walk, Next, Found, Nothing, NextFrom}
 
 -- pages hold one tree from a root at most
 abbrev pub OneTree : Type 0
@@ -71,6 +72,27 @@ rows_between low high (row ∷ more) =
 abbrev pub WalkGives : Type 0
 WalkGives = (columns : Option ℕ) (pages : Pages) (root : ℕ) (tree : Tree) (low high : ℤ) → IsWholeTree pages root tree → AreAccepted columns (rows_of tree) →
     below_all <ℤ low → Walk columns pages root low high (map shown (rows_between low high (rows_of tree))) End
+
+-- the first row whose rowid is at least a key
+abbrev pub first_row : ℤ → List Row → Option Row
+first_row key [] = None
+first_row key (row ∷ more) = if int_le key (rowid row) then Some row else first_row key more
+
+-- the search for the next row meets one thing; a cell has one payload at most, and where it has one no fault
+pub record OneNext : Type 0 where
+  pub once : (pages : Pages) (root : ℕ) (key : ℤ) (a b : Next) → NextFrom pages root key a → NextFrom pages root key b → a ≡ b
+  pub read_once : (columns : Option ℕ) (pages : Pages) (cell : LeafCell) (p q : List ℕ) → IsReadable columns pages cell p → IsReadable columns pages cell q → p ≡ q
+  pub not_both : (columns : Option ℕ) (pages : Pages) (leaf : ℕ) (cell : LeafCell) (payload : List ℕ) (fault : Fault) → IsReadable columns pages cell payload
+      → ¬ (IsUnreadable columns pages leaf cell fault)
+
+-- the search meets this row, on some leaf, and it can be read; or it meets nothing
+abbrev pub MeetsRow : Pages → ℕ → ℤ → Option Row → Type 0
+MeetsRow pages root key None = NextFrom pages root key Nothing
+MeetsRow pages root key (Some row) = HasRow pages row × ((leaf : ℕ) × NextFrom pages root key (Found leaf row.cell))
+
+-- in a whole tree it meets the first row from the key on
+abbrev pub NextGives : Type 0
+NextGives = (pages : Pages) (root : ℕ) (tree : Tree) (key : ℤ) → IsWholeTree pages root tree → below_all ≤ℤ key → MeetsRow pages root key (first_row key (rows_of tree))
 
 -- so many pages are not too many for a database
 abbrev pub Admits : Pages → Pages → Type 0

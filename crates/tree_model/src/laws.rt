@@ -1,6 +1,6 @@
 //! What follows from the definitions of trees and whole pages alone: laws that every crate above may use.
 
-ghost use Rattle.tree_model.specs.Laws.{OneTree, TreeStays, RowsRise, OnePath, PathFinds, OneWalk, WalkGives, WholeStays, RootAdded, LeafReplaced, WholeReplaced, OneWitness};
+ghost use Rattle.tree_model.specs.Laws.{OneTree, TreeStays, RowsRise, OnePath, PathFinds, OneWalk, WalkGives, OneNext, NextGives, WholeStays, RootAdded, LeafReplaced, WholeReplaced, OneWitness};
 
 use db_format::{header_in_front, one_create, one_record};
 use page_list::{one_chain, one_end, one_freelist};
@@ -50,6 +50,20 @@ pub fn one_walk()
 /// A walk over a range of rowids of a whole tree gives just its rows in it, where all its payloads are accepted.
 pub fn walk_gives()
     ensures { WalkGives }
+{}
+
+/// The search for the next row meets one thing, whatever the pages hold, and a cell has one payload, or a fault.
+pub fn one_next()
+    ensures { OneNext }
+{
+    one_page();
+    one_chain();
+    one_end();
+}
+
+/// The search for the next row in a whole tree meets the first row from its key on.
+pub fn next_gives()
+    ensures { NextGives }
 {}
 
 /// Whole pages stay whole, with the same trees and the same freelist, where no named page changes, and where they grow.

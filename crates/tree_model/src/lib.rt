@@ -10,7 +10,7 @@ mod level;
 
 pub use ends::{Fault, Next, PathEnd, WalkEnd};
 pub use laws::{
-    leaf_replaced, one_path, one_tree, one_walk, one_witness, path_finds, root_added, rows_rise,
-    tree_stays, walk_gives, whole_replaced, whole_stays,
+    leaf_replaced, next_gives, one_next, one_path, one_tree, one_walk, one_witness, path_finds,
+    root_added, rows_rise, tree_stays, walk_gives, whole_replaced, whole_stays,
 };
 pub use level::Level;

@@ -7,7 +7,7 @@ use Rattle.tree_page.specs.Written.{Fits}
 use Rattle.page_cut.specs.declared.parts.Sheet.{Sheet}
 use Rattle.page_cut.specs.declared.parts.Sheets.{Sheets}
 use Rattle.tree_level.specs.Level.{numbers, up_cells, with_ups}
-use Rattle.tree_plan.specs.declared.level.Level.{Level}
+use Rattle.tree_model.specs.declared.level.Level.{Level}
 use Rattle.tree_plan.specs.Plan.{IsInnerPlan}
 use Rattle.tree_plan.specs.Law.{AreNumbered}
 

@@ -3,8 +3,7 @@ use Rattle.std.proofs.Common.{◌≡◌, ℕ, ◌≤◌, List, refl, ◌∙◌, 
 use Rattle.byte_base.specs.Count.{Rose}
 use Rattle.page_list.specs.Pages.{Pages, HasPage}
 use Rattle.page_pool.specs.Space.{SpaceState, HasSizes, Steady, Stays}
-use Rattle.payload_chain.specs.Chains.{Midway, midway}
-use Rattle.payload_chain.specs.Steps.{HasEach}
+use Rattle.payload_chain.specs.Chains.{Midway, midway, HasEach}
 
 pub steady-same : {a : SpaceState} → HasSizes a → Steady a a
 steady-same sizes = record { told = refl; sized = refl; used = refl; is_ready = λ h. h; is_writable = λ h. h; counted = omega arith; sizes = sizes }

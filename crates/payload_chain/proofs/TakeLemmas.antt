@@ -1,16 +1,15 @@
 -- Pages that are taken, one after the other.
 use Rattle.std.proofs.Common.{◌≡◌, inl, inr, ℕ, zero, suc, ◌+◌, ◌≤◌, ◌<◌, List, [], ◌∷◌, ◌++◌, length, refl, sym, ap, ◌∙◌, subst, arith, add-one, length-append, IsTrue}
-use Rattle.std.proofs.lemmas.Bool.{cases_lt}
 use Rattle.page_list.specs.Pages.{Pages, HasPage, IsGood, Among}
 use Rattle.page_list.specs.Freelist.{HasHead}
 use Rattle.page_list.specs.Chain.{pages_needed}
 use Rattle.page_list.specs.Edits.{taken_number, after_take, taken_numbers, after_takes}
 use Rattle.page_list.proofs.ChainLemmas.{among-here}
-use Rattle.page_pool.specs.Space.{SpaceState, Steady}
+use Rattle.page_pool.specs.Space.{SpaceState, HasSizes, Steady}
 use Rattle.page_pool.specs.Pool.{Grows, Taken, TakeRefused}
-use Rattle.payload_chain.specs.Chains.{midway, MayTakeEach, TookEach, StopsTaking, StopsPutting, PutRefused, WriteRefused, Wrote, OnlyThese, first_of, with_chain}
-use Rattle.payload_chain.specs.Steps.{TookThese, TakingStops, PutEach, StopsPuttingEach}
-use Rattle.payload_chain.proofs.StateLemmas.{here, steady-on, steady-here, stays-here, page-later, each-later, at_same}
+use Rattle.payload_chain.specs.Chains.{midway, MayTakeEach, TookEach, StopsTaking, StopsPutting, PutRefused, WriteRefused, Wrote, OnlyThese, first_of, with_chain, TookThese}
+use Rattle.payload_chain.specs.Steps.{PutEach, StopsPuttingEach}
+use Rattle.payload_chain.proofs.StateLemmas.{here, steady-same, steady-on, steady-here, stays-here, page-later, each-later, at_same}
 use Rattle.payload_chain.proofs.WalkLemmas.{each-more}
 use Rattle.db_format.specs.declared.fault.SpaceFault.{SpaceFault}
 use Rattle.db_format.specs.declared.fault.SpaceFault.TheVariants.{Failed, Memory, Bad, Corrupt, Large}
@@ -86,37 +85,34 @@ refused-here c (Corrupt page) s r = (stays-here s r.0, λ t. r.1 (s.told ∙ t))
 refused-here c (Large pages) s r = let large = r.1 in let e = s.sized in (stays-here s r.0, rw e at large, r.2, λ t. r.3 (s.told ∙ t))
 
 pub stops-taking : {old now : SpaceState} {count : ℕ} (new : SpaceState) (needed : ℕ) (fault : SpaceFault) → TookEach old now count → count < needed
-    → TakeRefused now new fault → TakingStops old new needed fault
-stops-taking {now = now} {count = count} new needed fault took fewer refused = inl (record {
+    → TakeRefused now new fault → StopsTaking old new needed fault
+stops-taking {now = now} {count = count} new needed fault took fewer refused = record {
   count = count;
   fewer = fewer;
   met = here now;
   took = took-here took;
   refused = refused-here new fault took.steady refused;
-})
+}
 
--- no memory to note the page that was taken
-pub stops-noting : {old now : SpaceState} {count : ℕ} (needed : ℕ) → TookEach old now count → count ≤ needed → TakingStops old now needed Memory
-stops-noting {old = old} {now = now} {count = count} needed took few =
-    elim (cases_lt count needed) as (λ _. TakingStops old now needed Memory) [
-      | inl fewer ↦ stops-taking now needed Memory took fewer (record { size = refl; only = λ t. record { size = refl; each = λ n a b. record { bytes_stay = refl; mark_stays = refl } } })
-      | inr all ↦ let e : count ≡ needed = omega arith in let P : ℕ → Type 0 = λ n. TookEach old now n in inr (subst P e took, refl)
-    ]
+-- no page is taken yet
+pub took-none : {old : SpaceState} → HasSizes old → TookThese old old 0 []
+took-none {old = old} sizes = record {
+  took = record { steady = steady-same sizes; no_fewer = omega arith; no_more = omega arith; may = λ t. tt; pages_are = λ t. refl };
+  many = refl;
+  there = record { each = λ n among. absurd (omega (arith, among)) };
+  are = λ t. refl;
+}
+
+-- no memory for the numbers
+pub stops-noting : {old : SpaceState} (needed : ℕ) → HasSizes old → 1 ≤ needed → StopsTaking old old needed Memory
+stops-noting {old = old} needed sizes some =
+    stops-taking old needed Memory (took-none sizes).took some
+    (record { size = refl; only = λ t. record { size = refl; each = λ n a b. record { bytes_stay = refl; mark_stays = refl } } })
 
 -- why a chain could not be written: pages could not be taken
 pub write-refused : {old new : SpaceState} (needed : ℕ) (payload : List ℕ) (fault : SpaceFault) → needed ≡ pages_needed old.pages.usable (length payload)
-    → TakingStops old new needed fault → WriteRefused old new payload fault
-write-refused {old = old} {new = new} needed payload fault is (inl stops) = let P : ℕ → Type 0 = λ n. StopsTaking old new n fault in inl (subst P is stops)
-write-refused {old = old} {new = new} needed payload fault is (inr (took, memory)) =
-    let P : ℕ → Type 0 = λ n. StopsPutting old new n fault in
-    let Q : SpaceFault → Type 0 = λ f. PutRefused (midway old (here new)) new (taken_numbers old.page_size needed old.pages) f in
-    inr (subst P is (record {
-      met = here new;
-      took = took-here took;
-      size = refl;
-      only = λ t. record { size = refl; each = λ n out. record { bytes_stay = refl; mark_stays = refl } };
-      refused = subst Q (sym memory) tt;
-    }))
+    → StopsTaking old new needed fault → WriteRefused old new payload fault
+write-refused {old = old} {new = new} needed payload fault is stops = let P : ℕ → Type 0 = λ n. StopsTaking old new n fault in inl (subst P is stops)
 
 -- or one of them could not be put
 put-here : {a b : SpaceState} (c : SpaceState) (numbers numbers' : List ℕ) (fault : SpaceFault) → Steady a b → (IsTrue a.tells → numbers ≡ numbers')

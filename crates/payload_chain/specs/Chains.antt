@@ -93,6 +93,17 @@ pub record TookEach (old new : SpaceState) (count : ℕ) : Type 0 where
   pub may : IsTrue old.tells → MayTakeEach old.page_size count old.pages
   pub pages_are : IsTrue old.tells → new.pages ≡ after_takes old.page_size count old.pages
 
+-- each of the numbers is a page's
+pub record HasEach (pages : Pages) (numbers : List ℕ) : Type 0 where
+  pub each : (number : ℕ) → Among numbers number → HasPage pages number
+
+-- these pages were taken, as many as that
+pub record TookThese (old new : SpaceState) (count : ℕ) (numbers : List ℕ) : Type 0 where
+  pub took : TookEach old new count
+  pub many : length numbers ≡ count
+  pub there : HasEach new.pages numbers
+  pub are : IsTrue old.tells → numbers ≡ taken_numbers old.page_size count old.pages
+
 -- a page of a chain: the number of the next, some bytes, and zeros behind them
 abbrev pub chain_page : ℕ → ℕ → List ℕ → List ℕ
 chain_page page_size next bytes = big_bytes 4 next ++ (bytes ++ replicate (page_size - (4 + length bytes)) 0)

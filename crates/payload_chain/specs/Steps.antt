@@ -4,23 +4,18 @@ use Rattle.std.specs.Ordering.{nat_cmp}
 use Rattle.std.specs.BTreeSet.{BTreeSet, contains}
 use Rattle.byte_base.specs.Count.{Rose}
 use Rattle.byte_base.specs.Numbers.{number_at}
-use Rattle.page_list.specs.Pages.{Pages, HasPage, IsGood, Among, times}
+use Rattle.page_list.specs.Pages.{HasPage, IsGood, Among, times}
 use Rattle.page_list.specs.Chain.{IsChain, pages_needed}
-use Rattle.page_list.specs.Edits.{taken_numbers}
 use Rattle.page_pool.specs.Space.{SpaceState, Steady}
 use Rattle.page_pool.specs.Pool.{GiveRefused}
 use Rattle.db_format.specs.declared.fault.SpaceFault.{SpaceFault}
 use Rattle.db_format.specs.declared.fault.SpaceFault.TheVariants.{Failed, Memory, Bad, Corrupt, Large}
-use Rattle.payload_chain.specs.Chains.{Midway, midway, GaveEach, TookEach, StopsTaking, PutRefused, OnlyThese, with_chain, first_of}
+use Rattle.payload_chain.specs.Chains.{Midway, midway, GaveEach, HasEach, PutRefused, OnlyThese, with_chain, first_of}
 use Rattle.payload_chain.specs.declared.walk.Walk.{Walk}
 
 -- the set has the numbers of the list
 pub record HasMet (met : BTreeSet ℕ) (numbers : List ℕ) : Type 0 where
   pub each : (number : ℕ) → contains nat_cmp met number ≡ nat_lt 0 (times number numbers)
-
--- each of the numbers is a page's
-pub record HasEach (pages : Pages) (numbers : List ℕ) : Type 0 where
-  pub each : (number : ℕ) → Among numbers number → HasPage pages number
 
 -- a walk that begins
 pub record Begins (walk : Walk) (first : ℕ) : Type 0 where
@@ -78,17 +73,6 @@ pub record StopsGiving (old new : SpaceState) (numbers : List ℕ) (fault : Spac
   pub met : Midway
   pub gave : GaveEach old (midway old met) given
   pub refused : GiveRefused (midway old met) new number fault
-
--- these pages were taken, as many as that
-pub record TookThese (old new : SpaceState) (count : ℕ) (numbers : List ℕ) : Type 0 where
-  pub took : TookEach old new count
-  pub many : length numbers ≡ count
-  pub there : HasEach new.pages numbers
-  pub are : IsTrue old.tells → numbers ≡ taken_numbers old.page_size count old.pages
-
--- fewer were taken, and the next was refused; or there was no memory to note the last one
-abbrev pub TakingStops : SpaceState → SpaceState → ℕ → SpaceFault → Type 0
-TakingStops old new count fault = StopsTaking old new count fault ⊎ (TookEach old new count × (fault ≡ Memory))
 
 -- the bytes were put to these pages, none of which was bad
 pub record PutEach (old new : SpaceState) (numbers rest : List ℕ) (first : ℕ) : Type 0 where

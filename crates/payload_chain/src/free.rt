@@ -3,8 +3,8 @@
 ghost use Rattle.std.specs.Prelude.{IfOk, IfErr, OnOk};
 ghost use Rattle.page_pool.specs.Space.{IsReady, IsWritable, HasSizes, Steady, Stays};
 ghost use Rattle.page_pool.specs.Pool.{NotesChange};
-ghost use Rattle.payload_chain.specs.Chains.{ReadRefused, Freed, FreeRefused};
-ghost use Rattle.payload_chain.specs.Steps.{HasPages, HasEach, GaveAll, StopsGiving};
+ghost use Rattle.payload_chain.specs.Chains.{ReadRefused, Freed, FreeRefused, HasEach};
+ghost use Rattle.payload_chain.specs.Steps.{HasPages, GaveAll, StopsGiving};
 
 use crate::walk::{Walk, page_buffer, pages_needed};
 use page_pool::{PageSpace, SpaceFault, give_page};

@@ -17,4 +17,4 @@ pub use db_format::local_size;
 pub use free::free_chain;
 pub use laws::{chain_written, written_comes_back};
 pub use read::read_chain;
-pub use write::write_chain;
+pub use write::{take_pages, write_chain};

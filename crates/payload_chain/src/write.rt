@@ -5,8 +5,8 @@ ghost use Rattle.page_list.specs.Pages.{HasPage};
 ghost use Rattle.page_list.specs.Chain.{pages_needed};
 ghost use Rattle.page_pool.specs.Space.{IsWritable, HasSizes, Steady, PageCause, PutLeaves};
 ghost use Rattle.page_pool.specs.Pool.{NotesChange};
-ghost use Rattle.payload_chain.specs.Chains.{Wrote, WriteRefused, chain_page};
-ghost use Rattle.payload_chain.specs.Steps.{HasEach, TookThese, TakingStops, PutEach, StopsPuttingEach};
+ghost use Rattle.payload_chain.specs.Chains.{HasEach, TookThese, StopsTaking, Wrote, WriteRefused, chain_page};
+ghost use Rattle.payload_chain.specs.Steps.{PutEach, StopsPuttingEach};
 
 use crate::walk::{page_buffer, pages_needed, room};
 use byte_base::put_u32;
@@ -36,21 +36,24 @@ pub fn write_chain<S: PageSpace>(
     put_pages(alloc, space, numbers, rest)
 }
 
-/// Takes so many pages, one after the other.
-fn take_pages<S: PageSpace>(
+/// Takes so many pages, one after the other, and answers their numbers in that order. All memory is taken first.
+///
+/// Refused as `take_page` is: some of the pages are taken then, fewer than asked for, and no page but page 1, the trunks
+/// of the freelist and the pages taken has changed.
+pub fn take_pages<S: PageSpace>(
     alloc: Global,
     space: &mut S,
     count: usize,
 ) -> Result<Vec<u32>, SpaceFault>
     requires writable { IsWritable (S.state space.old) }
     requires some { 1 ≤ (S.state space.old).pages.size }
-    requires sizes { HasSizes (S.state space.old) }
     ensures steady { Steady (S.state space.old) (S.state space.new) }
     ensures took { IfOk result (λ numbers. TookThese (S.state space.old) (S.state space.new) count numbers.items) }
-    ensures refused { IfErr result (TakingStops (S.state space.old) (S.state space.new) count) }
+    ensures refused { IfErr result (StopsTaking (S.state space.old) (S.state space.new) count) }
     ensures noted { NotesChange (S.state space.old) (S.state space.new) }
 {
-    let mut numbers = Vec::new(alloc);
+    let _pages = space.size();
+    let mut numbers = Vec::with_capacity(alloc, count)?;
     for _ in 0..count {
         let number = take_page(alloc, space)?;
         numbers.push(number)?;

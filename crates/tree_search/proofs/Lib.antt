@@ -1,0 +1,4 @@
+pub mod CellLemmas
+pub mod PageLemmas
+pub mod StateLemmas
+pub mod PathLemmas

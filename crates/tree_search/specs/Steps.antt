@@ -1,0 +1,72 @@
+-- Words that only the private steps use. The definitions of paths and searches stand here as records: at a depth that is a
+-- numeral they are not opened.
+use Rattle.std.specs.Prelude.{◌≡◌, ◌⊎◌, ℕ, ◌≤◌, ℤ, List, length, Option, Some, None}
+use Rattle.page_list.specs.Pages.{Pages, HasPage}
+use Rattle.db_format.specs.declared.fault.SpaceFault.{SpaceFault}
+use Rattle.db_format.specs.declared.fault.SpaceFault.TheVariants.{Failed, Memory, Bad, Corrupt, Large}
+use Rattle.tree_page.specs.declared.cell.LeafCell.{LeafCell}
+use Rattle.tree_model.specs.Whole.{below_all, most_depth}
+use Rattle.tree_model.specs.declared.ends.Fault.{Fault}
+use Rattle.tree_model.specs.declared.ends.PathEnd.{PathEnd}
+use Rattle.tree_model.specs.declared.ends.Next.{Next}
+use Rattle.tree_model.specs.declared.ends.Next.TheVariants.{Found, Nothing, Meets}
+use Rattle.tree_model.specs.Walk.{LeadsTo, Seeks, FirstOf, IsReadable, IsUnreadable}
+use Rattle.tree_search.specs.declared.next.Place.{Place}
+use Rattle.tree_search.specs.declared.next.Search.{Search}
+
+-- a cell keeps no more than the payload
+abbrev pub IsKept : LeafCell → Type 0
+IsKept cell = length cell.local ≤ cell.payload_len
+
+-- a chain that is broken at a page that is not there is a fault of the leaf; all else stays
+abbrev pub IsOfLeaf : Pages → ℕ → SpaceFault → SpaceFault → Type 0
+IsOfLeaf pages leaf (Corrupt page) after = (HasPage pages page × (after ≡ Corrupt page)) ⊎ (¬ (HasPage pages page) × (after ≡ Corrupt leaf))
+IsOfLeaf pages leaf before after = after ≡ before
+
+-- the path from a page on
+pub record Leads (left : ℕ) (pages : Pages) (above page : ℕ) (key : ℤ) (end : PathEnd) : Type 0 where
+  pub leads : LeadsTo left None pages above page key end
+
+-- the key that a search begins at
+abbrev pub from_of : Option ℤ → ℤ
+from_of None = below_all
+from_of (Some key) = key
+
+-- what a search meets, where it answers
+abbrev pub next_of : Option Place → Next
+next_of None = Nothing
+next_of (Some place) = Found place.leaf place.cell
+
+-- the search for the next row from a page on, and below the children of one
+pub record HasSought (left : ℕ) (pages : Pages) (key : ℤ) (above : ℕ) (from : ℤ) (page : ℕ) (next : Next) : Type 0 where
+  pub seeks : Seeks left pages key above from page next
+
+pub record HasFirst (left : ℕ) (pages : Pages) (key : ℤ) (page : ℕ) (from : ℤ) (children : List ℕ) (next : Next) : Type 0 where
+  pub first : FirstOf (Seeks left pages key page) from children next
+
+-- a search goes on with the same key, and a buffer as long as before
+pub record GoesOn (old new : Search) : Type 0 where
+  pub same_key : new.key ≡ old.key
+  pub as_long : length new.buffer.items ≡ length old.buffer.items
+
+-- the row that the whole search found, and that it found none
+pub record ReadsRow (pages : Pages) (root : ℕ) (from rowid : ℤ) (payload : List ℕ) : Type 0 where
+  pub leaf : ℕ
+  pub cell : LeafCell
+  pub sought : HasSought most_depth pages from root from root (Found leaf cell)
+  pub keyed : rowid ≡ cell.rowid
+  pub readable : IsReadable None pages cell payload
+
+abbrev pub NextSought : Pages → ℕ → ℤ → Option (ℤ × List ℕ) → Type 0
+NextSought pages root from None = HasSought most_depth pages from root from root Nothing
+NextSought pages root from (Some row) = ReadsRow pages root from row.0 row.1
+
+-- the fault that it met
+pub record RowFails (pages : Pages) (root : ℕ) (from : ℤ) (fault : Fault) : Type 0 where
+  pub leaf : ℕ
+  pub cell : LeafCell
+  pub sought : HasSought most_depth pages from root from root (Found leaf cell)
+  pub unreadable : IsUnreadable None pages leaf cell fault
+
+abbrev pub NextFails : Pages → ℕ → ℤ → Fault → Type 0
+NextFails pages root from fault = HasSought most_depth pages from root from root (Meets fault) ⊎ RowFails pages root from fault

@@ -1,0 +1,15 @@
+//! Rows looked for in the trees of a page space, whatever its pages hold: the way down to a leaf, the row of a rowid, and
+//! the next row.
+//!
+//! After sqlite.org, "Database File Format", section 1.6.
+#![tactic(auto)]
+
+mod next;
+mod page;
+mod path;
+mod payload;
+mod row;
+
+pub use next::next_from;
+pub use path::{Descent, descend};
+pub use row::find;

@@ -2,3 +2,5 @@ pub mod CellLemmas
 pub mod PageLemmas
 pub mod StateLemmas
 pub mod PathLemmas
+pub mod KeptLemmas
+pub mod RowLemmas

@@ -1,5 +1,5 @@
 -- The cells of a leaf keep no more than their payloads.
-use Rattle.std.proofs.Common.{◌≡◌, ℕ, ◌≤◌, Bool, true, false, if◌then◌else◌, ℤ, int_le, List, [], ◌∷◌, map, Option, Some, refl, subst, arith}
+use Rattle.std.proofs.Common.{◌≡◌, ℕ, ◌≤◌, Bool, true, false, if◌then◌else◌, ℤ, int_le, List, [], ◌∷◌, map, Option, None, Some, IfSome, refl, subst, arith}
 use Rattle.std.proofs.lemmas.Bool.Decides.{nat_tests}
 use Rattle.std.specs.List.{AllByRecursion}
 use Rattle.db_format.specs.Spill.{local_size}
@@ -8,6 +8,7 @@ use Rattle.tree_page.specs.Written.{Fits, IsSound}
 use Rattle.tree_page.specs.declared.cell.LeafCell.{LeafCell}
 use Rattle.tree_page.specs.declared.cell.PageCells.TheVariants.{Leaf as LeafPage}
 use Rattle.tree_model.specs.Walk.{first_from}
+use Rattle.tree_search.specs.declared.next.Place.{Place}
 use Rattle.tree_search.specs.Steps.{IsKept}
 
 -- no more is kept than there is
@@ -28,3 +29,8 @@ first_of usable key (c ∷ more) cell all is =
 
 pub first_kept : (number usable : ℕ) (key : ℤ) (cells : List LeafCell) (cell : LeafCell) → Fits (LeafPage cells) number usable → first_from key cells ≡ Some cell → IsKept cell
 first_kept number usable key cells cell fits is = first_of usable key cells cell fits.sound is
+
+pub place_kept : (number usable : ℕ) (key : ℤ) (cells : List LeafCell) (found : Option Place) → Fits (LeafPage cells) number usable
+    → IfSome found (λ place. first_from key cells ≡ Some place.cell) → IfSome found (λ place. IsKept place.cell)
+place_kept number usable key cells None fits is = tt
+place_kept number usable key cells (Some place) fits is = first_kept number usable key cells place.cell fits is

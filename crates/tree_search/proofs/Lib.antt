@@ -4,3 +4,4 @@ pub mod StateLemmas
 pub mod PathLemmas
 pub mod KeptLemmas
 pub mod RowLemmas
+pub mod NextLemmas

@@ -1,12 +1,12 @@
 //! The next row from a rowid on.
 
-ghost use Rattle.std.specs.Prelude.{◌≡◌, ◌≤◌, ℕ, length, IsTrue, IfOk, IfErr, IfSome, None, option_map};
+ghost use Rattle.std.specs.Prelude.{◌≡◌, ◌≤◌, ℕ, length, IsTrue, IfOk, IfErr, IfSome, Some, None, option_map};
 ghost use Rattle.page_pool.specs.Space.{IsReady, HasSizes, Steady, Stays};
 ghost use Rattle.tree_page.specs.Written.{Fits};
 ghost use Rattle.tree_model.specs.Tree.{Tree, rows_of};
 ghost use Rattle.tree_model.specs.Whole.{IsWholeTree};
 ghost use Rattle.tree_model.specs.declared.ends.Next.TheVariants.{Meets};
-ghost use Rattle.tree_model.specs.Walk.{all_children, children_from};
+ghost use Rattle.tree_model.specs.Walk.{all_children, children_from, first_from, in_leaf};
 ghost use Rattle.tree_model.specs.Laws.{first_row, shown};
 ghost use Rattle.tree_search.specs.Search.{NextIs, NextMeets, SearchRefused, IsNoDamage};
 ghost use Rattle.tree_search.specs.Steps.{from_of, next_of, IsKept, HasSought, HasFirst, GoesOn, NextSought, NextFails};
@@ -18,7 +18,7 @@ use byte_base::Bytes;
 use page_pool::{PageSpace, SpaceFault};
 use std::alloc::Global;
 use tree_model::{next_gives, one_next};
-use tree_page::{InnerCell, InnerCells, LeafCell, PageCells};
+use tree_page::{InnerCell, LeafCell, LeafCells, PageCells};
 
 /// A cell that a search found.
 #[derive(Debug, Drop)]
@@ -112,14 +112,22 @@ fn seek<S: PageSpace>(
     ensures refused { IfErr result (SearchRefused (S.state space.old) (S.state space.new) (λ fault. HasSought left (S.state space.old).pages search.old.key above (from_of from) page (Meets fault))) }
 {
     match enter(search.alloc, space, &mut search.buffer, left, above, page)? {
-        PageCells::Leaf(cells) => Ok(match first_from(search.key, cells) {
-            None => None,
-            Some(cell) => Some(Place { leaf: page, cell }),
-        }),
+        PageCells::Leaf(cells) => Ok(in_leaf(page, search.key, cells)),
         PageCells::Interior { cells, right } => {
-            first_of(space, search, left - 1, page, from, &cells, right)
+            first_of(space, search, left - 1, page, from, cells.as_slice(), right)
         }
     }
+}
+
+/// The first cell from a key on in a leaf.
+fn in_leaf(leaf: u32, key: i64, cells: LeafCells) -> Option<Place>
+    ensures is { next_of result ≡ in_leaf leaf (first_from key cells) }
+    ensures cell { IfSome result (λ place. first_from key cells ≡ Some place.cell) }
+{
+    let Some(cell) = first_from(key, cells) else {
+        return None;
+    };
+    Some(Place { leaf, cell })
 }
 
 /// The first cell from the key on below the children of an interior page that `from` does not pass over: the first of them
@@ -131,7 +139,7 @@ fn first_of<S: PageSpace>(
     left: u32,
     page: u32,
     from: Option<i64>,
-    cells: &InnerCells,
+    cells: &[InnerCell],
     right: u32,
 ) -> Result<Option<Place>, SpaceFault>
     requires ready { IsReady (S.state space.old) }
@@ -145,7 +153,7 @@ fn first_of<S: PageSpace>(
     ensures refused { IfErr result (SearchRefused (S.state space.old) (S.state space.new) (λ fault. HasFirst left (S.state space.old).pages search.old.key page (from_of from) (children_from (from_of from) cells.now right) (Meets fault))) }
 {
     let mut start = from;
-    for cell in cells_from(from, cells.as_slice()) {
+    for cell in cells_from(from, cells) {
         let found = seek(space, search, left, page, start, cell.child)?;
         if found.is_some() {
             return Ok(found);

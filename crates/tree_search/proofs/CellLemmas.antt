@@ -1,5 +1,5 @@
 -- Searches among the cells of a page.
-use Rattle.std.proofs.Common.{◌≡◌, ℕ, zero, suc, ◌+◌, ◌<◌, ◌≤◌, Bool, true, false, ℤ, int_le, if◌then◌else◌, List, [], ◌∷◌, length, drop, get_or, Option, None, Some, MatchOption, refl, sym, ap, subst, ◌∙◌, drop-cons, add-one}
+use Rattle.std.proofs.Common.{◌≡◌, ℕ, suc, ◌+◌, ◌<◌, ◌≤◌, Bool, true, false, ℤ, int_le, if◌then◌else◌, List, [], ◌∷◌, length, drop, get_or, None, Some, MatchOption, refl, sym, ap, subst, ◌∙◌, drop-cons, add-one}
 use Rattle.std.specs.List.{slice_get}
 use Rattle.std.proofs.lemmas.List.{drop_all}
 use Rattle.tree_page.specs.declared.cell.LeafCell.{LeafCell}

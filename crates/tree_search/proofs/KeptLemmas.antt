@@ -1,5 +1,5 @@
 -- The cells of a leaf keep no more than their payloads.
-use Rattle.std.proofs.Common.{◌≡◌, ℕ, ◌≤◌, Bool, true, false, if◌then◌else◌, ℤ, int_le, List, [], ◌∷◌, map, Option, None, Some, IfSome, refl, subst, arith}
+use Rattle.std.proofs.Common.{◌≡◌, ℕ, ◌≤◌, Bool, true, false, if◌then◌else◌, ℤ, int_le, List, [], ◌∷◌, map, Option, None, Some, IfSome, subst, arith}
 use Rattle.std.proofs.lemmas.Bool.Decides.{nat_tests}
 use Rattle.std.specs.List.{AllByRecursion}
 use Rattle.db_format.specs.Spill.{local_size}

@@ -5,3 +5,4 @@ pub mod PathLemmas
 pub mod KeptLemmas
 pub mod RowLemmas
 pub mod NextLemmas
+pub mod NextRowLemmas

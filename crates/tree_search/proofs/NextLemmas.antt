@@ -1,5 +1,5 @@
 -- The search for the next row.
-use Rattle.std.proofs.Common.{◌≡◌, ◌≢◌, ℕ, zero, suc, ◌+◌, ◌-◌, ◌≤◌, ◌<◌, ℤ, List, [], ◌∷◌, length, drop, get_or, Option, None, Some, IsTrue, is_some, false, inl, inr, refl, sym, ap, subst, ◌∙◌, arith}
+use Rattle.std.proofs.Common.{◌≡◌, ◌≢◌, ℕ, zero, suc, ◌+◌, ◌≤◌, ◌<◌, ℤ, List, [], ◌∷◌, length, drop, get_or, Option, None, Some, IsTrue, is_some, false, inl, inr, refl, sym, ap, subst, ◌∙◌, arith}
 use Rattle.page_list.specs.Pages.{Pages}
 use Rattle.page_pool.specs.Space.{SpaceState, Steady, Stays}
 use Rattle.db_format.specs.declared.fault.SpaceFault.{SpaceFault}
@@ -14,7 +14,7 @@ use Rattle.tree_model.specs.Whole.{below_all}
 use Rattle.tree_model.specs.Walk.{IsFault, Seeks, FirstOf, first_from, in_leaf, all_children, children_from}
 use Rattle.tree_search.specs.declared.next.Place.{Place}
 use Rattle.tree_search.specs.Search.{SearchRefused}
-use Rattle.tree_search.specs.Steps.{HasSought, HasFirst, next_of}
+use Rattle.tree_search.specs.Steps.{HasSought, HasFirst}
 use Rattle.tree_search.proofs.CellLemmas.{from_place}
 use Rattle.tree_search.proofs.StateLemmas.{refused_on, refused_as}
 

@@ -1,5 +1,5 @@
 -- Refusals, from a later state to an earlier one.
-use Rattle.std.proofs.Common.{◌≡◌, ℕ, IsTrue, Some, ap, sym, subst, ◌∙◌, arith}
+use Rattle.std.proofs.Common.{◌≡◌, ℕ, IsTrue, Some, subst, ◌∙◌, arith}
 use Rattle.page_list.specs.Pages.{Pages}
 use Rattle.page_pool.specs.Space.{SpaceState, Steady, Stays}
 use Rattle.db_format.specs.declared.fault.SpaceFault.{SpaceFault}

@@ -1,6 +1,6 @@
 -- Rows looked for in the pages of a page space: the way down to a leaf, the row of a rowid, and the next row.
 -- After sqlite.org, "Database File Format", section 1.6, "B-tree Pages".
-use Rattle.std.specs.Prelude.{◌≡◌, ◌⊎◌, ℕ, zero, suc, ◌≤◌, ◌<◌, ℤ, int_le, if◌then◌else◌, List, [], ◌∷◌, length, Option, Some, None, IsTrue}
+use Rattle.std.specs.Prelude.{◌≡◌, ◌⊎◌, ℕ, suc, ◌≤◌, ◌<◌, ℤ, int_le, if◌then◌else◌, List, [], ◌∷◌, length, Option, Some, None, IsTrue}
 use Rattle.std.specs.List.{AllByRecursion}
 use Rattle.byte_base.specs.Count.{Rose}
 use Rattle.page_list.specs.Pages.{Pages}
@@ -16,7 +16,6 @@ use Rattle.tree_model.specs.Held.{HasCells}
 use Rattle.tree_model.specs.Whole.{most_depth}
 use Rattle.tree_model.specs.declared.ends.Fault.{Fault}
 use Rattle.tree_model.specs.declared.ends.PathEnd.{PathEnd}
-use Rattle.tree_model.specs.declared.ends.Next.{Next}
 use Rattle.tree_model.specs.declared.ends.Fault.TheVariants.{BadPage, Broken}
 use Rattle.tree_model.specs.declared.ends.PathEnd.TheVariants.{HasPayload, NoRow}
 use Rattle.tree_model.specs.declared.ends.Next.TheVariants.{Found, Nothing, Meets}

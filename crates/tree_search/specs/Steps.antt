@@ -3,7 +3,7 @@
 use Rattle.std.specs.Prelude.{◌≡◌, ◌⊎◌, ℕ, ◌≤◌, ℤ, List, length, Option, Some, None}
 use Rattle.page_list.specs.Pages.{Pages, HasPage}
 use Rattle.db_format.specs.declared.fault.SpaceFault.{SpaceFault}
-use Rattle.db_format.specs.declared.fault.SpaceFault.TheVariants.{Failed, Memory, Bad, Corrupt, Large}
+use Rattle.db_format.specs.declared.fault.SpaceFault.TheVariants.{Corrupt}
 use Rattle.tree_page.specs.declared.cell.LeafCell.{LeafCell}
 use Rattle.tree_model.specs.Whole.{below_all, most_depth}
 use Rattle.tree_model.specs.declared.ends.Fault.{Fault}

@@ -1,24 +1,20 @@
-use Rattle.std.proofs.Common.{◌≡◌, ◌≢◌, ◌∙◌, ◌+◌, ◌-◌, suc, ap, sym, refl, subst, ℕ, ℤ, pos, List, [], ◌∷◌, drop, length, get_or, Option, IfErr, IfOk, IsTrue, None, Some, is_some, true, false, SFits, w64, arith, rules}
-use Rattle.std.proofs.Math.Seq.{drop-length}
+use Rattle.std.proofs.Common.{◌≡◌, ◌∙◌, ◌+◌, ◌-◌, suc, ap, sym, refl, pos, List, [], ◌∷◌, drop, get_or, Option, IsTrue, SFits, w64, arith, rules}
 use Rattle.std.proofs.lemmas.List.{drop_all}
 use Rattle.std.proofs.lemmas.Int.{to_z-of_z}
 use Rattle.std.proofs.lemmas.Result.{IfErr-weaker, IfOk-weaker, err_from_is_err_and}
 use Rattle.payload_chain.proofs.StateLemmas.{steady-on, stays-on}
-use Rattle.page_list.specs.Pages.{Pages}
-use Rattle.db_format.specs.declared.fault.SpaceFault.{SpaceFault}
 use Rattle.tree_page.specs.declared.cell.InnerCell.{InnerCell}
 use Rattle.tree_page.specs.declared.cell.PageCells.TheVariants.{Leaf as LeafPage, Interior as InteriorPage}
 use Rattle.tree_page.specs.Written.{Fits}
 use Rattle.tree_model.specs.Held.{HasCells}
 use Rattle.tree_model.specs.declared.ends.Fault.{Fault}
-use Rattle.tree_model.specs.declared.ends.Next.{Next}
 use Rattle.tree_model.specs.declared.ends.Next.TheVariants.{Nothing, Meets}
 use Rattle.tree_model.specs.Walk.{all_children, children_from, in_leaf, first_from}
 use Rattle.tree_search.specs.declared.next.Place.{Place}
 use Rattle.tree_search.specs.Search.{SearchRefused}
 use Rattle.tree_search.specs.Steps.{from_of, next_of, HasSought, HasFirst}
 use Rattle.tree_search.proofs.KeptLemmas.{place_kept}
-use Rattle.tree_search.proofs.NextLemmas.{sought_leaf, sought_on, passes_first, passes_on, passes_last, next_child, is_none, below_on, below_refused, page_refused, child_refused}
+use Rattle.tree_search.proofs.NextLemmas.{sought_leaf, sought_on, passes_on, passes_last, next_child, is_none, below_on, below_refused, page_refused}
 use Rattle.tree_search.proofs.next.+seek.Goals as goal
 
 pub first_of-loop-cell-preserved : goal.first_of-loop-cell-preserved

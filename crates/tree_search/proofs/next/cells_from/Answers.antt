@@ -1,8 +1,7 @@
-use Rattle.std.proofs.Common.{◌≡◌, ℕ, ◌-◌, List, length, take, drop, ap, sym, ◌∙◌, arith, length-drop}
+use Rattle.std.proofs.Common.{ℕ, ◌-◌, List, length, drop, ap, sym, ◌∙◌, arith, length-drop}
 use Rattle.std.proofs.lemmas.List.{take_all}
 use Rattle.tree_page.specs.declared.cell.InnerCell.{InnerCell}
-use Rattle.tree_model.specs.Walk.{all_children, children_from}
-use Rattle.tree_search.specs.Search.{place_for}
+use Rattle.tree_model.specs.Walk.{all_children}
 use Rattle.tree_search.specs.Steps.{from_of}
 use Rattle.tree_search.proofs.CellLemmas.{children_are}
 use Rattle.tree_search.proofs.next.cells_from.Goals as goal

@@ -1,7 +1,6 @@
-use Rattle.std.proofs.Common.{◌≡◌, IfErr, IsTrue, None}
+use Rattle.std.proofs.Common.{IfErr, None}
 use Rattle.std.proofs.lemmas.Int.{to_z-of_z}
 use Rattle.std.proofs.lemmas.Result.{IfErr-weaker}
-use Rattle.db_format.specs.declared.fault.SpaceFault.{SpaceFault}
 use Rattle.tree_model.specs.declared.ends.Fault.{Fault}
 use Rattle.tree_model.specs.declared.ends.PathEnd.TheVariants.{Ends}
 use Rattle.tree_model.specs.Whole.{most_depth}

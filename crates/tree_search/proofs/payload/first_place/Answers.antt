@@ -1,7 +1,6 @@
-use Rattle.std.proofs.Common.{◌≡◌, ap, sym, ◌∙◌, rules, SFits, w64, arith, length}
+use Rattle.std.proofs.Common.{sym, ◌∙◌, rules, SFits, w64, arith, length}
 use Rattle.std.proofs.lemmas.Int.{to_z-of_z}
 use Rattle.std.proofs.lemmas.Option.{slice_get_read, slice_get_past}
-use Rattle.tree_model.specs.Walk.{first_from}
 use Rattle.tree_search.proofs.CellLemmas.{first_found, none_left}
 use Rattle.tree_search.proofs.payload.first_place.Goals as goal
 

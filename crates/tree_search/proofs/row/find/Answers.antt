@@ -1,7 +1,6 @@
-use Rattle.std.proofs.Common.{◌≡◌, IfErr, IfOk, IsTrue, List, ℕ, None, Option}
+use Rattle.std.proofs.Common.{◌≡◌, IfErr, IfOk, List, ℕ, None, Option}
 use Rattle.std.proofs.lemmas.Int.{to_z-of_z}
 use Rattle.std.proofs.lemmas.Result.{IfErr-weaker, IfOk-weaker}
-use Rattle.db_format.specs.declared.fault.SpaceFault.{SpaceFault}
 use Rattle.tree_model.specs.Tree.{Tree, rows_of}
 use Rattle.tree_model.specs.declared.ends.Fault.{Fault}
 use Rattle.tree_model.specs.declared.ends.PathEnd.TheVariants.{Ends}

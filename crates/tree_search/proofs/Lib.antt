@@ -5,4 +5,5 @@ pub mod PathLemmas
 pub mod KeptLemmas
 pub mod RowLemmas
 pub mod NextLemmas
+pub mod EmptyLemmas
 pub mod NextRowLemmas

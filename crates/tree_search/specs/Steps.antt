@@ -1,6 +1,9 @@
 -- Words that only the private steps use. The definitions of paths and searches stand here as records: at a depth that is a
 -- numeral they are not opened.
-use Rattle.std.specs.Prelude.{◌≡◌, ◌⊎◌, ℕ, ◌≤◌, ℤ, List, length, Option, Some, None}
+use Rattle.std.specs.Prelude.{◌≡◌, ◌⊎◌, ℕ, ◌≤◌, ℤ, List, length, Option, Some, None, IsTrue}
+use Rattle.std.specs.declared.cmp.Ordering.{Ordering}
+use Rattle.std.specs.Ordering.{nat_cmp, ordering_then}
+use Rattle.std.specs.BTreeSet.{BTreeSet, contains}
 use Rattle.page_list.specs.Pages.{Pages, HasPage}
 use Rattle.db_format.specs.declared.fault.SpaceFault.{SpaceFault}
 use Rattle.db_format.specs.declared.fault.SpaceFault.TheVariants.{Corrupt}
@@ -43,6 +46,14 @@ pub record HasSought (left : ℕ) (pages : Pages) (key : ℤ) (above : ℕ) (fro
 
 pub record HasFirst (left : ℕ) (pages : Pages) (key : ℤ) (page : ℕ) (from : ℤ) (children : List ℕ) (next : Next) : Type 0 where
   pub first : FirstOf (Seeks left pages key page) from children next
+
+-- the order of pages with how many more pages a path could go over there
+abbrev pub depth_cmp : ℕ × ℕ → ℕ × ℕ → Ordering
+depth_cmp a b = ordering_then (nat_cmp a.0 b.0) (nat_cmp a.1 b.1)
+
+-- pages that were searched whole and have nothing, wherever their numbers stand
+pub record AreEmpty (pages : Pages) (key : ℤ) (empty : BTreeSet (ℕ × ℕ)) : Type 0 where
+  pub each : (left page above : ℕ) → IsTrue (contains depth_cmp empty (left, page)) → HasSought left pages key above below_all page Nothing
 
 -- a search goes on with the same key, and a buffer as long as before
 pub record GoesOn (old new : Search) : Type 0 where

@@ -1,6 +1,6 @@
 //! The next row from a rowid on.
 
-ghost use Rattle.std.specs.Prelude.{◌≡◌, ◌≤◌, ℕ, length, IsTrue, IfOk, IfErr, IfSome, Some, None, option_map};
+ghost use Rattle.std.specs.Prelude.{◌≡◌, ◌≤◌, ℕ, length, IsTrue, IfOk, IfErr, OnOk, IfSome, Some, None, option_map};
 ghost use Rattle.page_pool.specs.Space.{IsReady, HasSizes, Steady, Stays};
 ghost use Rattle.tree_page.specs.Written.{Fits};
 ghost use Rattle.tree_model.specs.Tree.{Tree, rows_of};
@@ -9,7 +9,7 @@ ghost use Rattle.tree_model.specs.declared.ends.Next.TheVariants.{Meets};
 ghost use Rattle.tree_model.specs.Walk.{all_children, children_from, first_from, in_leaf};
 ghost use Rattle.tree_model.specs.Laws.{first_row, shown};
 ghost use Rattle.tree_search.specs.Search.{NextIs, NextMeets, SearchRefused, IsNoDamage};
-ghost use Rattle.tree_search.specs.Steps.{from_of, next_of, IsKept, HasSought, HasFirst, GoesOn, NextSought, NextFails};
+ghost use Rattle.tree_search.specs.Steps.{from_of, next_of, IsKept, HasSought, HasFirst, GoesOn, AreEmpty, NextSought, NextFails};
 
 use crate::page::{MOST_DEPTH, enter, page_buffer};
 use crate::path::place_from;
@@ -17,6 +17,7 @@ use crate::payload::{first_from, payload_of};
 use byte_base::Bytes;
 use page_pool::{PageSpace, SpaceFault};
 use std::alloc::Global;
+use std::collections::BTreeSet;
 use tree_model::{next_gives, one_next};
 use tree_page::{InnerCell, LeafCell, LeafCells, PageCells};
 
@@ -37,6 +38,9 @@ pub(crate) struct Search {
     key: i64,
     /// A buffer of one page.
     buffer: Vec<u8>,
+    /// Pages that were searched whole and have no row from the key on, each with how many more pages a path could go over
+    /// there. On pages that loop, or are named many times, a search would go over them again and again.
+    empty: BTreeSet<(u32, u32)>,
 }
 
 /// The first row with a rowid of at least `from` in the tree from page `root`, its rowid and its payload.
@@ -81,6 +85,7 @@ fn read_next<S: PageSpace>(
         alloc,
         key: from,
         buffer: page_buffer(alloc, space)?,
+        empty: BTreeSet::new(alloc),
     };
     let Some(Place { leaf, cell }) = seek(space, &mut search, MOST_DEPTH, root, Some(from), root)?
     else {
@@ -103,10 +108,48 @@ fn seek<S: PageSpace>(
     page: u32,
 ) -> Result<Option<Place>, SpaceFault>
     requires ready { IsReady (S.state space.old) }
+    requires sizes { HasSizes (S.state space.old) }
     requires one_page { length search.old.buffer.items ≡ (S.state space.old).page_size }
+    requires empty { IsTrue (S.state space.old).tells → AreEmpty (S.state space.old).pages search.old.key search.old.empty }
     ensures steady { Steady (S.state space.old) (S.state space.new) }
     ensures stays { Stays (S.state space.old) (S.state space.new) }
     ensures search { GoesOn search.old search.new }
+    ensures empty { IsTrue (S.state space.old).tells → OnOk result (AreEmpty (S.state space.old).pages search.old.key search.new.empty) }
+    ensures kept { IfOk result (λ found. IfSome found (λ place. IsKept place.cell)) }
+    ensures found { IsTrue (S.state space.old).tells → IfOk result (λ found. HasSought left (S.state space.old).pages search.old.key above (from_of from) page (next_of found)) }
+    ensures refused { IfErr result (SearchRefused (S.state space.old) (S.state space.new) (λ fault. HasSought left (S.state space.old).pages search.old.key above (from_of from) page (Meets fault))) }
+{
+    if from.is_some() {
+        return seek_page(space, search, left, above, from, page);
+    }
+    if search.empty.contains(&(left, page)) {
+        return Ok(None);
+    }
+    let found = seek_page(space, search, left, above, None, page)?;
+    if found.is_some() {
+        return Ok(found);
+    }
+    search.empty.insert((left, page))?;
+    Ok(None)
+}
+
+/// The same, whether the page was searched before or not.
+#[cycle(seek)]
+fn seek_page<S: PageSpace>(
+    space: &mut S,
+    search: &mut Search,
+    left: u32,
+    above: u32,
+    from: Option<i64>,
+    page: u32,
+) -> Result<Option<Place>, SpaceFault>
+    requires ready { IsReady (S.state space.old) }
+    requires one_page { length search.old.buffer.items ≡ (S.state space.old).page_size }
+    requires empty { IsTrue (S.state space.old).tells → AreEmpty (S.state space.old).pages search.old.key search.old.empty }
+    ensures steady { Steady (S.state space.old) (S.state space.new) }
+    ensures stays { Stays (S.state space.old) (S.state space.new) }
+    ensures search { GoesOn search.old search.new }
+    ensures empty { IsTrue (S.state space.old).tells → OnOk result (AreEmpty (S.state space.old).pages search.old.key search.new.empty) }
     ensures kept { IfOk result (λ found. IfSome found (λ place. IsKept place.cell)) }
     ensures found { IsTrue (S.state space.old).tells → IfOk result (λ found. HasSought left (S.state space.old).pages search.old.key above (from_of from) page (next_of found)) }
     ensures refused { IfErr result (SearchRefused (S.state space.old) (S.state space.new) (λ fault. HasSought left (S.state space.old).pages search.old.key above (from_of from) page (Meets fault))) }
@@ -145,9 +188,11 @@ fn first_of<S: PageSpace>(
     requires ready { IsReady (S.state space.old) }
     requires sizes { HasSizes (S.state space.old) }
     requires one_page { length search.old.buffer.items ≡ (S.state space.old).page_size }
+    requires empty { IsTrue (S.state space.old).tells → AreEmpty (S.state space.old).pages search.old.key search.old.empty }
     ensures steady { Steady (S.state space.old) (S.state space.new) }
     ensures stays { Stays (S.state space.old) (S.state space.new) }
     ensures search { GoesOn search.old search.new }
+    ensures empty { IsTrue (S.state space.old).tells → OnOk result (AreEmpty (S.state space.old).pages search.old.key search.new.empty) }
     ensures kept { IfOk result (λ found. IfSome found (λ place. IsKept place.cell)) }
     ensures found { IsTrue (S.state space.old).tells → IfOk result (λ found. HasFirst left (S.state space.old).pages search.old.key page (from_of from) (children_from (from_of from) cells.now right) (next_of found)) }
     ensures refused { IfErr result (SearchRefused (S.state space.old) (S.state space.new) (λ fault. HasFirst left (S.state space.old).pages search.old.key page (from_of from) (children_from (from_of from) cells.now right) (Meets fault))) }

@@ -1,4 +1,4 @@
-use Rattle.std.proofs.Common.{◌≡◌, ◌∙◌, ◌+◌, ◌-◌, suc, ap, sym, refl, pos, List, [], ◌∷◌, drop, get_or, Option, IsTrue, SFits, w64, arith, rules}
+use Rattle.std.proofs.Common.{◌≡◌, ◌∙◌, ◌+◌, ◌-◌, suc, ap, sym, refl, subst, pos, List, [], ◌∷◌, drop, get_or, Option, IsTrue, SFits, w64, arith, rules}
 use Rattle.std.proofs.lemmas.List.{drop_all}
 use Rattle.std.proofs.lemmas.Int.{to_z-of_z}
 use Rattle.std.proofs.lemmas.Result.{IfErr-weaker, IfOk-weaker, err_from_is_err_and}
@@ -8,13 +8,16 @@ use Rattle.tree_page.specs.declared.cell.PageCells.TheVariants.{Leaf as LeafPage
 use Rattle.tree_page.specs.Written.{Fits}
 use Rattle.tree_model.specs.Held.{HasCells}
 use Rattle.tree_model.specs.declared.ends.Fault.{Fault}
+use Rattle.tree_model.specs.declared.ends.Next.{Next}
 use Rattle.tree_model.specs.declared.ends.Next.TheVariants.{Nothing, Meets}
+use Rattle.tree_model.specs.Whole.{below_all}
 use Rattle.tree_model.specs.Walk.{all_children, children_from, in_leaf, first_from}
 use Rattle.tree_search.specs.declared.next.Place.{Place}
 use Rattle.tree_search.specs.Search.{SearchRefused}
 use Rattle.tree_search.specs.Steps.{from_of, next_of, HasSought, HasFirst}
 use Rattle.tree_search.proofs.KeptLemmas.{place_kept}
 use Rattle.tree_search.proofs.NextLemmas.{sought_leaf, sought_on, passes_on, passes_last, next_child, is_none, below_on, below_refused, page_refused}
+use Rattle.tree_search.proofs.EmptyLemmas.{empty_on, empty_more}
 use Rattle.tree_search.proofs.next.+seek.Goals as goal
 
 pub first_of-loop-cell-preserved : goal.first_of-loop-cell-preserved
@@ -34,6 +37,8 @@ first_of-loop-cell-preserved g t c =
       steady = steady-on inv.steady done.steady;
       stays = stays-on inv.steady inv.stays done.stays;
       goes = record { same_key = done.search.same_key ∙ inv.goes.same_key; as_long = done.search.as_long ∙ inv.goes.as_long };
+      empty = λ told.
+          empty_on old mid c.args.search.now.key c.loop-cell.search.key c.seek.new.search.empty inv.steady inv.stays inv.goes.same_key told done.empty;
       passed = λ told.
           passes_on c.args.left old.pages c.args.search.now.key c.args.page from (children_from from c.args.cells.now c.args.right) start (all_children (drop c.loop-cell.cell-index items) c.args.right)
           (all_children (drop (c.loop-cell.cell-index + 1) items) c.args.right) cell.child (inv.passed told) (next_child items c.loop-cell.cell-index cell c.args.right c.loop-cell-test.true (search rules))
@@ -61,16 +66,16 @@ first_of-returns-clause-found g t c = λ told.
     (sought_on old mid c.args.left c.args.search.now.key c.loop-cell.search.key c.args.page start c.args.right (next_of found) (next_of found) inv.steady inv.stays inv.goes.same_key refl (λ _. sought) told))
     (c.seek-2.ensures.found (inv.steady.told ∙ told))
 
-pub seek-returns-in_err-cells-clause-refused : goal.seek-returns-in_err-cells-clause-refused
-seek-returns-in_err-cells-clause-refused g t c =
+pub seek_page-returns-in_err-cells-clause-refused : goal.seek_page-returns-in_err-cells-clause-refused
+seek_page-returns-in_err-cells-clause-refused g t c =
     let state = g.S.PageSpace.state in
     let p = err_from_is_err_and c.from_residual.result c.from_residual.ensures.1 in
     rw (p.1, p.2)
     (page_refused (state c.args.space.now) (state c.enter.new.space) c.args.left c.args.search.now.key c.args.above (from_of c.args.from) c.args.page c.in_err-cells.field-0.0
     c.in_err-cells.ensures.refused)
 
-pub seek-returns-in-Interior-clause-found : goal.seek-returns-in-Interior-clause-found
-seek-returns-in-Interior-clause-found g t c = λ told.
+pub seek_page-returns-in-Interior-clause-found : goal.seek_page-returns-in-Interior-clause-found
+seek_page-returns-in-Interior-clause-found g t c = λ told.
     let state = g.S.PageSpace.state in
     let old = state c.args.space.now in
     let mid = state c.enter.new.space in
@@ -88,8 +93,8 @@ seek-returns-in-Interior-clause-found g t c = λ told.
     c.as_slice.ensures left_is has first)
     (c.first_of.ensures.found (done.steady.told ∙ told))
 
-pub seek-returns-in-Interior-clause-refused : goal.seek-returns-in-Interior-clause-refused
-seek-returns-in-Interior-clause-refused g t c =
+pub seek_page-returns-in-Interior-clause-refused : goal.seek_page-returns-in-Interior-clause-refused
+seek_page-returns-in-Interior-clause-refused g t c =
     let state = g.S.PageSpace.state in
     let old = state c.args.space.now in
     let mid = state c.enter.new.space in
@@ -106,17 +111,26 @@ seek-returns-in-Interior-clause-refused g t c =
     c.as_slice.ensures left_is has)
     c.first_of.ensures.refused
 
-pub seek-returns-in-Leaf-clause-kept : goal.seek-returns-in-Leaf-clause-kept
-seek-returns-in-Leaf-clause-kept g t c =
+pub seek_page-returns-in-Leaf-clause-kept : goal.seek_page-returns-in-Leaf-clause-kept
+seek_page-returns-in-Leaf-clause-kept g t c =
     let old = g.S.PageSpace.state c.args.space.now in
     let fits : Fits (LeafPage c.in-Leaf.cells) c.args.page old.pages.usable = rw c.in-Leaf.is at c.in_ok-cells.ensures.fits in
     place_kept c.args.page old.pages.usable _ c.in-Leaf.cells c.in_leaf.result fits c.in_leaf.ensures.cell
 
-pub seek-returns-in-Leaf-clause-found : goal.seek-returns-in-Leaf-clause-found
-seek-returns-in-Leaf-clause-found g t c = λ told.
+pub seek_page-returns-in-Leaf-clause-found : goal.seek_page-returns-in-Leaf-clause-found
+seek_page-returns-in-Leaf-clause-found g t c = λ told.
     let old = g.S.PageSpace.state c.args.space.now in
     let key = c.args.search.now.key in
     let key_fits : SFits w64 key = search rules in
     let has : HasCells old.pages c.args.page (LeafPage c.in-Leaf.cells) = rw c.in-Leaf.is at (c.in_ok-cells.ensures.found told) in
     let met : next_of c.in_leaf.result ≡ in_leaf c.args.page (first_from key c.in-Leaf.cells) = simp to_z-of_z at c.in_leaf.ensures.is in
     sought_leaf c.args.left old.pages key c.args.above (from_of c.args.from) c.args.page c.in-Leaf.cells (next_of c.in_leaf.result) c.in_ok-cells.ensures.within has met
+
+pub seek-returns-clause-empty : goal.seek-returns-clause-empty
+seek-returns-clause-empty g t c = λ told.
+    let pages = (g.S.PageSpace.state c.args.space.now).pages in
+    let key = c.args.search.now.key in
+    let P : Next → Type 0 = λ next. HasSought c.args.left pages key c.args.above below_all c.args.page next in
+    let nothing : next_of c.in_ok-found.found ≡ Nothing = ap next_of (is_none c.in_ok-found.found (sym c.is_some-2.ensures ∙ c.if-is_some-2.false)) in
+    empty_more pages key c.seek_page-2.new.search.empty c.insert.new.self c.args.left c.args.above c.args.page (c.in_ok-found.ensures.empty told) (subst P nothing (c.in_ok-found.ensures.found told))
+    c.in_ok-insert.ensures.updates

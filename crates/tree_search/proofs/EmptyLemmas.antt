@@ -1,7 +1,6 @@
 -- Pages that were searched whole and have nothing.
-use Rattle.std.proofs.Common.{◌≡◌, ℕ, zero, suc, ◌<◌, ◌≤◌, cond, Bool, true, false, ℤ, List, [], IsTrue, inl, inr, refl, sym, ap, subst, ◌∙◌, arith}
+use Rattle.std.proofs.Common.{◌≡◌, ℕ, zero, suc, cond, Bool, true, false, ℤ, IsTrue, inl, inr, refl, subst, ◌∙◌, arith}
 use Rattle.std.proofs.lemmas.Bool.Decides.{nat_tests}
-use Rattle.std.specs.Ordering.{nat_cmp, ordering_then}
 use Rattle.std.specs.BTreeMap.{is_at}
 use Rattle.std.specs.BTreeSet.{BTreeSet, contains, Updates}
 use Rattle.page_list.specs.Pages.{Pages}
@@ -17,15 +16,6 @@ nothing_seeks zero pages key above above' from page seeks = let never = seeks.2 
 nothing_seeks (suc left) pages key above above' from page (inl seeks) = let never = seeks.2 in cc
 nothing_seeks (suc left) pages key above above' from page (inr (inl seeks)) = inr (inl seeks)
 nothing_seeks (suc left) pages key above above' from page (inr (inr seeks)) = inr (inr seeks)
-
-pub none_yet : (pages : Pages) (key : ℤ) (empty : BTreeSet (ℕ × ℕ)) → empty.keys ≡ [] → AreEmpty pages key empty
-none_yet pages key empty is = record {
-  each = λ left page above has.
-      let no : contains depth_cmp empty (left, page) ≡ false = simp is in
-      let P : Bool → Type 0 = λ b. IsTrue b in
-      let never : false ≡ true = subst P no has in
-      cc;
-}
 
 -- the place of one page among others
 same_place : (left page l p : ℕ) → is_at (depth_cmp (left, page)) (l, p) ≡ true → (left ≡ l) × (page ≡ p)
@@ -55,11 +45,3 @@ empty_on old mid key key' empty steady stays same t are =
     let P : Pages → Type 0 = λ p. AreEmpty p key' empty in
     let Q : ℤ → Type 0 = λ k. AreEmpty old.pages k empty in
     subst Q same (subst P (stays.pages_stay t) (are (steady.told ∙ t)))
-
-pub empty_later : (old mid : SpaceState) (key key' : ℤ) (empty : BTreeSet (ℕ × ℕ)) → Steady old mid → Stays old mid → key' ≡ key
-    → (IsTrue old.tells → AreEmpty old.pages key empty) → IsTrue mid.tells → AreEmpty mid.pages key' empty
-empty_later old mid key key' empty steady stays same are t =
-    let told = sym steady.told ∙ t in
-    let P : Pages → Type 0 = λ p. AreEmpty p key' empty in
-    let Q : ℤ → Type 0 = λ k. AreEmpty old.pages k empty in
-    subst P (sym (stays.pages_stay told)) (subst Q (sym same) (are told))

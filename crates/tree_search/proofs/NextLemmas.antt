@@ -42,10 +42,6 @@ sought_below left less pages key above from page cells right next is has below =
 pub record Passes (left : ℕ) (pages : Pages) (key : ℤ) (page : ℕ) (from : ℤ) (all : List ℕ) (start : ℤ) (rest : List ℕ) : Type 0 where
   pub on : (next : Next) → FirstOf (Seeks left pages key page) start rest next → FirstOf (Seeks left pages key page) from all next
 
-pub passes_first : (left : ℕ) (pages : Pages) (key : ℤ) (page : ℕ) (from : ℤ) (all rest : List ℕ) → all ≡ rest → Passes left pages key page from all from rest
-passes_first left pages key page from all rest is =
-    let P : List ℕ → Type 0 = λ l. Passes left pages key page from l from rest in subst P (sym is) (record { on = λ next first. first })
-
 -- the children of cells from a place on
 pub next_child : (cells : List InnerCell) (i : ℕ) (cell : InnerCell) (right : ℕ) → i < length cells → cell ≡ get_or cells i cell
     → all_children (drop i cells) right ≡ cell.child ∷ all_children (drop (i + 1) cells) right
@@ -118,15 +114,3 @@ pub page_refused : (old new : SpaceState) (left : ℕ) (key : ℤ) (above : ℕ)
 page_refused old new left key above from page fault refused =
     refused_as old new (IsFault old.pages left above page) (λ f. HasSought left old.pages key above from page (Meets f)) fault
     (λ t f is. sought_fault left old.pages key above from page f is) refused
-
--- a child that could not
-pub child_refused : (old mid new : SpaceState) (left : ℕ) (key key' : ℤ) (page : ℕ) (from : ℤ) (all : List ℕ) (start : ℤ) (rest more : List ℕ) (child : ℕ) (fault : SpaceFault) → Steady old mid → Stays old mid
-    → key' ≡ key → (IsTrue old.tells → Passes left old.pages key page from all start rest) → rest ≡ child ∷ more
-    → SearchRefused mid new (λ f. HasSought left mid.pages key' page start child (Meets f)) fault → SearchRefused old new (λ f. HasFirst left old.pages key page from all (Meets f)) fault
-child_refused old mid new left key key' page from all start rest more child fault steady stays same_key passes is refused =
-    let A : Pages → Fault → Type 0 = λ p f. HasSought left p key' page start child (Meets f) in
-    refused_as old new (A old.pages) (λ f. HasFirst left old.pages key page from all (Meets f)) fault
-    (λ t f sought.
-    let P : ℤ → Type 0 = λ k. HasSought left old.pages k page start child (Meets f) in
-    passes_found left old.pages key page from all start rest more child (Meets f) (passes t) is (subst P same_key sought) (fault_is_some f))
-    (refused_on old mid new A fault steady stays refused)

@@ -52,9 +52,6 @@ pub record Comes (pages : Pages) (root : ℕ) (key : ℤ) (left above page : ℕ
   pub ends : (end : PathEnd) → Leads left pages above page key end → Leads most_depth pages root root key end
   pub down : (more : List Level) (leaf : ℕ) (cells : List LeafCell) → Descends pages key page more leaf cells → Descends pages key root (levels ++ more) leaf cells
 
-pub comes_first : (pages : Pages) (root : ℕ) (key : ℤ) → Comes pages root key most_depth root root []
-comes_first pages root key = record { ends = λ end leads. leads; down = λ more leaf cells way. way }
-
 pub comes_down : (pages : Pages) (root : ℕ) (key : ℤ) (left less above page child : ℕ) (levels longer : List Level) (level : Level) → Comes pages root key left above page levels
     → left ≡ suc less → level.number ≡ page → HasCells pages page (InteriorPage level.cells level.right) → level.at ≡ place_for key level.cells
     → child ≡ child_for key level.cells level.right → longer ≡ levels ++ level ∷ [] → Comes pages root key less page child longer

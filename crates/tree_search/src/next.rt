@@ -59,7 +59,8 @@ pub fn next_from<S: PageSpace>(
     ensures steady { Steady (S.state space.old) (S.state space.new) }
     ensures stays { Stays (S.state space.old) (S.state space.new) }
     ensures found { IsTrue (S.state space.old).tells → IfOk result (NextIs (S.state space.old).pages root from) }
-    ensures whole { IsTrue (S.state space.old).tells → IfOk result (λ next. (tree : Tree) → IsWholeTree (S.state space.old).pages root tree → next ≡ option_map shown (first_row from (rows_of tree))) }
+    ensures whole { IsTrue (S.state space.old).tells → IfOk result
+        (λ next. (tree : Tree) → IsWholeTree (S.state space.old).pages root tree → next ≡ option_map shown (first_row from (rows_of tree))) }
     ensures refused { IfErr result (SearchRefused (S.state space.old) (S.state space.new) (NextMeets (S.state space.old).pages root from)) }
     ensures clean { IsTrue (S.state space.old).tells → IfErr result (λ fault. (tree : Tree) → IsWholeTree (S.state space.old).pages root tree → IsNoDamage fault) }
 {
@@ -117,7 +118,8 @@ fn seek<S: PageSpace>(
     ensures empty { IsTrue (S.state space.old).tells → OnOk result (AreEmpty (S.state space.old).pages search.old.key search.new.empty) }
     ensures kept { IfOk result (λ found. IfSome found (λ place. IsKept place.cell)) }
     ensures found { IsTrue (S.state space.old).tells → IfOk result (λ found. HasSought left (S.state space.old).pages search.old.key above (from_of from) page (next_of found)) }
-    ensures refused { IfErr result (SearchRefused (S.state space.old) (S.state space.new) (λ fault. HasSought left (S.state space.old).pages search.old.key above (from_of from) page (Meets fault))) }
+    ensures refused { IfErr result (SearchRefused (S.state space.old) (S.state space.new)
+        (λ fault. HasSought left (S.state space.old).pages search.old.key above (from_of from) page (Meets fault))) }
 {
     if from.is_some() {
         return seek_page(space, search, left, above, from, page);
@@ -152,7 +154,8 @@ fn seek_page<S: PageSpace>(
     ensures empty { IsTrue (S.state space.old).tells → OnOk result (AreEmpty (S.state space.old).pages search.old.key search.new.empty) }
     ensures kept { IfOk result (λ found. IfSome found (λ place. IsKept place.cell)) }
     ensures found { IsTrue (S.state space.old).tells → IfOk result (λ found. HasSought left (S.state space.old).pages search.old.key above (from_of from) page (next_of found)) }
-    ensures refused { IfErr result (SearchRefused (S.state space.old) (S.state space.new) (λ fault. HasSought left (S.state space.old).pages search.old.key above (from_of from) page (Meets fault))) }
+    ensures refused { IfErr result (SearchRefused (S.state space.old) (S.state space.new)
+        (λ fault. HasSought left (S.state space.old).pages search.old.key above (from_of from) page (Meets fault))) }
 {
     match enter(search.alloc, space, &mut search.buffer, left, above, page)? {
         PageCells::Leaf(cells) => Ok(in_leaf(page, search.key, cells)),
@@ -194,8 +197,10 @@ fn first_of<S: PageSpace>(
     ensures search { GoesOn search.old search.new }
     ensures empty { IsTrue (S.state space.old).tells → OnOk result (AreEmpty (S.state space.old).pages search.old.key search.new.empty) }
     ensures kept { IfOk result (λ found. IfSome found (λ place. IsKept place.cell)) }
-    ensures found { IsTrue (S.state space.old).tells → IfOk result (λ found. HasFirst left (S.state space.old).pages search.old.key page (from_of from) (children_from (from_of from) cells.now right) (next_of found)) }
-    ensures refused { IfErr result (SearchRefused (S.state space.old) (S.state space.new) (λ fault. HasFirst left (S.state space.old).pages search.old.key page (from_of from) (children_from (from_of from) cells.now right) (Meets fault))) }
+    ensures found { IsTrue (S.state space.old).tells → IfOk result
+        (λ found. HasFirst left (S.state space.old).pages search.old.key page (from_of from) (children_from (from_of from) cells.now right) (next_of found)) }
+    ensures refused { IfErr result (SearchRefused (S.state space.old) (S.state space.new)
+        (λ fault. HasFirst left (S.state space.old).pages search.old.key page (from_of from) (children_from (from_of from) cells.now right) (Meets fault))) }
 {
     let mut start = from;
     for cell in cells_from(from, cells) {

@@ -32,7 +32,8 @@ pub fn find<S: PageSpace>(
     ensures steady { Steady (S.state space.old) (S.state space.new) }
     ensures stays { Stays (S.state space.old) (S.state space.new) }
     ensures found { IsTrue (S.state space.old).tells → IfOk result (λ payload. Path None (S.state space.old).pages root rowid (path_end payload)) }
-    ensures whole { IsTrue (S.state space.old).tells → IfOk result (λ payload. (tree : Tree) → IsWholeTree (S.state space.old).pages root tree → path_end payload ≡ row_at rowid (rows_of tree)) }
+    ensures whole { IsTrue (S.state space.old).tells → IfOk result
+        (λ payload. (tree : Tree) → IsWholeTree (S.state space.old).pages root tree → path_end payload ≡ row_at rowid (rows_of tree)) }
     ensures refused { IfErr result (SearchRefused (S.state space.old) (S.state space.new) (λ fault. Path None (S.state space.old).pages root rowid (Ends fault))) }
     ensures clean { IsTrue (S.state space.old).tells → IfErr result (λ fault. (tree : Tree) → IsWholeTree (S.state space.old).pages root tree → IsNoDamage fault) }
 {

@@ -1,0 +1,3 @@
+pub mod Write
+pub mod Climb
+pub mod Steps

@@ -1,16 +1,14 @@
 -- Sheets, written one after the other.
-use Rattle.std.proofs.Common.{◌≡◌, ◌≢◌, ◌⊎◌, inl, inr, ℕ, zero, suc, ◌+◌, ◌-◌, ◌≤◌, ◌<◌, List, [], ◌∷◌, ◌++◌, length, take, get_or, replicate, IsTrue, Some, None, Result, Ok, Err, refl, sym, ap, subst, ◌∙◌, arith}
-use Rattle.std.proofs.lemmas.Bool.{cases_lt}
-use Rattle.std.proofs.lemmas.List.{take_at, take-take, take-append-le, length-take-le, map-append, take_more, get_or_read}
+use Rattle.std.proofs.Common.{◌≡◌, ◌≢◌, inl, inr, ℕ, zero, suc, ◌+◌, ◌-◌, ◌≤◌, ◌<◌, List, [], ◌∷◌, ◌++◌, length, take, get_or, replicate, IsTrue, Some, None, Result, Ok, Err, refl, sym, ap, subst, ◌∙◌, arith}
+use Rattle.std.proofs.lemmas.List.{take-take, take-append-le, length-take-le, map-append, take_more}
 use Rattle.std.specs.List.{AllByRecursion}
-use Rattle.byte_base.specs.Count.{Rose}
-use Rattle.page_list.specs.Pages.{Pages, HasPage, IsGood, SamePage, times, Among, AllDifferent}
+use Rattle.page_list.specs.Pages.{Pages, IsGood, times, Among, AllDifferent}
 use Rattle.page_list.specs.Edits.{with_page, cleared}
 use Rattle.page_list.proofs.TimesLemmas.{times-append, times-same, same_or_other, among-here, among-front, among-back}
 use Rattle.page_list.proofs.NumberLemmas.{cleared-long}
-use Rattle.page_pool.specs.Space.{SpaceState, HasSizes, Steady, Stays, PutLeaves, PageCause}
+use Rattle.page_pool.specs.Space.{SpaceState, HasSizes, Steady, Stays, PutLeaves}
 use Rattle.page_pool.specs.Pool.{NotesChange}
-use Rattle.payload_chain.specs.Chains.{OnlyThese, PutRefused}
+use Rattle.payload_chain.specs.Chains.{PutRefused}
 use Rattle.payload_chain.proofs.PutLemmas.{page-written, page-good, page-stays}
 use Rattle.payload_chain.proofs.StateLemmas.{steady-same, steady-on, stays-same, stays-on, rose-on}
 use Rattle.db_format.specs.declared.fault.SpaceFault.{SpaceFault}

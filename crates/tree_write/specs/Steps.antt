@@ -1,5 +1,5 @@
 -- Words for the steps inside the crate; no contract of a function that it shows to others needs them.
-use Rattle.std.specs.Prelude.{◌≡◌, ◌⊎◌, ℕ, ◌+◌, ◌≤◌, ℤ, ◌<ℤ◌, List, [], ◌∷◌, ◌++◌, length, Option, Some, None, IsTrue}
+use Rattle.std.specs.Prelude.{◌≡◌, ◌⊎◌, ℕ, zero, suc, ◌+◌, ◌≤◌, ℤ, pos, ◌<ℤ◌, List, [], ◌∷◌, ◌++◌, length, Option, Some, None, IsTrue}
 use Rattle.page_list.specs.Edits.{taken_numbers}
 use Rattle.page_pool.specs.Space.{SpaceState}
 use Rattle.payload_chain.specs.Chains.{TookEach}
@@ -16,6 +16,12 @@ use Rattle.tree_plan.specs.Climb.{on, Rises, RootSettles}
 abbrev pub last_key : ℤ → List InnerCell → ℤ
 last_key low [] = low
 last_key low (cell ∷ more) = last_key cell.rowid more
+
+-- the key behind the part at a place
+abbrev pub key_at : List Sheet → ℕ → ℤ
+key_at [] at = pos 0
+key_at (sheet ∷ more) zero = sheet.key
+key_at (sheet ∷ more) (suc at) = key_at more at
 
 -- the last of the cells, if there is one, is below a key; the first, if there is one, is above it
 abbrev pub EndsBelow : List InnerCell → ℤ → Type 0

@@ -1,13 +1,13 @@
 //! One page of the path: its parts get pages, and the page above it is planned.
 
-ghost use Rattle.std.specs.Prelude.{◌≡◌, ◌↔◌, ◌+◌, ◌≤◌, ◌<ℤ◌, [], ◌∷◌, ◌++◌, length, map, IsTrue, IfOk, IfErr, OnOk};
+ghost use Rattle.std.specs.Prelude.{◌≡◌, ◌↔◌, ◌+◌, ◌-◌, ◌≤◌, ◌<◌, ◌<ℤ◌, [], ◌∷◌, ◌++◌, length, map, IsTrue, IfOk, IfErr, OnOk};
 ghost use Rattle.page_pool.specs.Space.{IsWritable, Steady};
 ghost use Rattle.page_pool.specs.Pool.{NotesChange};
 ghost use Rattle.payload_chain.specs.Chains.{StopsTaking};
 ghost use Rattle.tree_page.specs.Page.{inner, rowid_of, AreRising};
 ghost use Rattle.tree_plan.specs.Climb.{on, Rises};
 ghost use Rattle.tree_write.specs.Climb.{MayClimb};
-ghost use Rattle.tree_write.specs.Steps.{EndsBelow, BeginsAbove, ArePlaced, IsNext, StepsUp};
+ghost use Rattle.tree_write.specs.Steps.{key_at, EndsBelow, BeginsAbove, ArePlaced, IsNext, StepsUp};
 
 use page_cut::{Sheet, Sheets};
 use page_pool::{PageSpace, SpaceFault};
@@ -94,13 +94,23 @@ fn rises(level: &Level, front: &[Sheet]) -> bool
     ensures { IsTrue result ↔ Rises level.now front.now }
 {
     let cells = level.cells.as_slice();
-    if !ends_below(&cells[..level.at], front[0].key) {
+    let first = key_at(front, 0);
+    let last = key_at(front, front.len() - 1);
+    if !ends_below(&cells[..level.at], first) {
         return false;
     }
-    if front.len() == 2 && front[0].key >= front[1].key {
+    if !begins_above(last, &cells[level.at..]) {
         return false;
     }
-    begins_above(front[front.len() - 1].key, &cells[level.at..])
+    front.len() == 1 || first < last
+}
+
+/// The key behind the part at a place.
+fn key_at(front: &[Sheet], at: usize) -> i64
+    requires { at < length front.now }
+    ensures { result ≡ key_at front.now at }
+{
+    front[at].key
 }
 
 /// Whether the last of the cells, if there is one, has a key below this one.

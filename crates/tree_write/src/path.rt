@@ -37,6 +37,7 @@ pub fn climb<S: PageSpace>(
     ensures refused { IfErr result (ClimbRefused (S.state space.old) (S.state space.new) (length levels.items)) }
     ensures noted { NotesChange (S.state space.old) (S.state space.new) }
 {
+    let _pages = space.size();
     let mut levels = levels;
     let mut number = number;
     let mut sheets = plan;

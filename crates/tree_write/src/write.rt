@@ -38,7 +38,11 @@ pub fn write_sheets<S: PageSpace>(
 }
 
 /// Writes one sheet to its page where it may stand there, by a buffer of one page.
-fn write_sheet<S: PageSpace>(space: &mut S, sheet: &Sheet, page: &mut [u8]) -> Result<(), SpaceFault>
+fn write_sheet<S: PageSpace>(
+    space: &mut S,
+    sheet: &Sheet,
+    page: &mut [u8],
+) -> Result<(), SpaceFault>
     requires writable { IsWritable (S.state space.old) }
     requires sizes { HasSizes (S.state space.old) }
     requires one_page { length page.old ≡ (S.state space.old).page_size }

@@ -2,7 +2,6 @@
 
 ghost use Rattle.std.specs.Prelude.{◌≡◌, ◌≤◌, ℕ, length, IsTrue, IfOk, IfErr, OnOk, IfSome, Some, None, option_map};
 ghost use Rattle.page_pool.specs.Space.{IsReady, HasSizes, Steady, Stays};
-ghost use Rattle.tree_page.specs.Written.{Fits};
 ghost use Rattle.tree_model.specs.Tree.{Tree, rows_of};
 ghost use Rattle.tree_model.specs.Whole.{IsWholeTree};
 ghost use Rattle.tree_model.specs.declared.ends.Next.TheVariants.{Meets};

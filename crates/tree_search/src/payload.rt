@@ -1,7 +1,7 @@
 //! The payload of a row: what its cell keeps, and behind it what its chain holds.
 
 ghost use Rattle.std.specs.Prelude.{◌≡◌, ◌≤◌, length, slice_get, IsTrue, IfOk, IfErr, None};
-ghost use Rattle.page_pool.specs.Space.{IsReady, HasSizes, Steady, Stays};
+ghost use Rattle.page_pool.specs.Space.{IsReady, Steady, Stays};
 ghost use Rattle.tree_model.specs.Walk.{IsReadable, IsUnreadable, first_from};
 ghost use Rattle.tree_search.specs.Search.{SearchRefused};
 ghost use Rattle.tree_search.specs.Steps.{IsKept, IsOfLeaf};

@@ -71,18 +71,6 @@ all-front : {A : Type 0} (P : A → Type 0) (xs : List A) (x : A) → AllByRecur
 all-front P [] x all = tt
 all-front P (y ∷ ys) x all = (all.0, all-front P ys x all.1)
 
-all-last : {A : Type 0} (P : A → Type 0) (xs : List A) (x : A) → AllByRecursion P (xs ++ x ∷ []) → P x
-all-last P [] x all = all.0
-all-last P (y ∷ ys) x all = all-last P ys x all.1
-
--- the level that comes next
-pub next-level : {old now : SpaceState} {leaf : ℕ} {plan : Sheets} {all left : List Level} {number : ℕ} {sheets : Sheets} {out : List Sheet}
-    (left' : List Level) (level : Level) → ClimbsAlong old now leaf plan all left number sheets out → left ≡ left' ++ level ∷ [] → MayClimb now.pages.usable level
-next-level {old = old} left' level along pop =
-    let P : List Level → Type 0 = λ l. AllByRecursion (MayClimb old.pages.usable) l in
-    let Q : ℕ → Type 0 = λ u. MayClimb u level in
-    subst Q (sym along.took.steady.used) (all-last (MayClimb old.pages.usable) left' level (subst P pop along.each))
-
 -- the numbers of one step more
 numbers-next : {old now : SpaceState} {count : ℕ} (more : ℕ) → TookEach old now count → IsTrue old.tells
     → taken_numbers old.page_size (count + more) old.pages ≡ taken_numbers old.page_size count old.pages ++ taken_numbers now.page_size more now.pages

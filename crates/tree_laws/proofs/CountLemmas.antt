@@ -10,7 +10,7 @@ use Rattle.tree_laws.specs.Whole.{missing_in, PagesAddUp}
 use Rattle.tree_laws.proofs.RangeLemmas.{named_there}
 
 -- how many places of a list have a number from 1 to a bound
-abbrev tally : List ℕ → ℕ → ℕ
+abbrev pub tally : List ℕ → ℕ → ℕ
 tally numbers zero = 0
 tally numbers (suc n) = times (suc n) numbers + tally numbers n
 
@@ -42,7 +42,7 @@ tally_one x (suc n) least most = elim (cases_lt n x) [
 ]
 
 -- where all are up to the bound, that is the length of the list
-tally_all : (numbers : List ℕ) (size : ℕ) → ((n : ℕ) → Among numbers n → (1 ≤ n) × (n ≤ size)) → tally numbers size ≡ length numbers
+pub tally_all : (numbers : List ℕ) (size : ℕ) → ((n : ℕ) → Among numbers n → (1 ≤ n) × (n ≤ size)) → tally numbers size ≡ length numbers
 tally_all [] size within = tally_none size
 tally_all (x ∷ numbers) size within =
     let here = within x (among-here x numbers) in

@@ -80,7 +80,7 @@ by_cells (Child child key more) inner = omega (arith, by_cells more inner)
 by_cells (Right page child) inner = omega arith
 
 -- a database has no more pages than the greatest length has pages of the least size
-most_pages : (pages : Pages) → HasHeader pages → pages.size ≤ 2097152
+pub most_pages : (pages : Pages) → HasHeader pages → pages.size ≤ 2097152
 most_pages pages has =
     let bytes : List ℕ = unsized_header pages in
     let len : ℕ = page_of bytes * pages.size in
@@ -93,7 +93,7 @@ most_pages pages has =
     not_more n k e = grind (arith, e)
 
 -- one of the trees is whole
-whole_one : (pages : Pages) (roots : List ℕ) (before others : List Tree) (tree : Tree) → AllZip (IsWholeTree pages) roots (before ++ tree ∷ others)
+pub whole_one : (pages : Pages) (roots : List ℕ) (before others : List Tree) (tree : Tree) → AllZip (IsWholeTree pages) roots (before ++ tree ∷ others)
     → (root : ℕ) × IsWholeTree pages root tree
 whole_one pages [] [] others tree all = absurd all
 whole_one pages [] (t ∷ before) others tree all = absurd all
@@ -101,7 +101,7 @@ whole_one pages (root ∷ roots) [] others tree all = (root, all.0)
 whole_one pages (root ∷ roots) (t ∷ before) others tree all = whole_one pages roots before others tree all.1
 
 -- its pages are different ones, and all there
-tree_fits : (pages : Pages) (roots : List ℕ) (before others : List Tree) (tree : Tree) (trunks : List Trunk) → IsWholeFor pages roots (before ++ tree ∷ others) trunks
+pub tree_fits : (pages : Pages) (roots : List ℕ) (before others : List Tree) (tree : Tree) (trunks : List Trunk) → IsWholeFor pages roots (before ++ tree ∷ others) trunks
     → length (pages_of tree) ≤ pages.size
 tree_fits pages roots before others tree trunks whole =
     let named : (n : ℕ) → times n (pages_of tree) ≤ times n (named_pages roots (before ++ tree ∷ others) trunks) =
@@ -109,7 +109,7 @@ tree_fits pages roots before others tree trunks whole =
     no_more_than pages.size (pages_of tree) (record { once = λ n. omega (arith, named n, whole.different.once n) })
     (λ n some. let there = named_there pages roots (before ++ tree ∷ others) trunks whole n (omega (arith, some, named n)) in (there.least, there.most))
 
-same_cells : (cells cells' : List InnerCell) (right right' : ℕ) → InteriorPage cells right ≡ InteriorPage cells' right' → cells ≡ cells'
+pub same_cells : (cells cells' : List InnerCell) (right right' : ℕ) → InteriorPage cells right ≡ InteriorPage cells' right' → cells ≡ cells'
 same_cells cells cells' right right' e = cc
 
 pub deep_is_large : OnePage → DeepTooLarge

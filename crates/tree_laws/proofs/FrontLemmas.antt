@@ -19,7 +19,7 @@ use Rattle.tree_laws.specs.Front.{FrontChanges, WholeFront}
 use Rattle.tree_laws.proofs.HeaderLemmas.{header_stays}
 
 -- the pages of a tree but the one at its top
-abbrev below_top : Tree → List ℕ
+abbrev pub below_top : Tree → List ℕ
 below_top (Leaf page rows) = chains_of rows
 below_top (Child child key more) = pages_of child ++ below_top more
 below_top (Right page child) = pages_of child
@@ -76,7 +76,7 @@ trees_front apart old new kept (root ∷ roots) (tree ∷ trees) keeps front amo
 )
 
 -- a tree names its top, and what is below
-top_count : (n : ℕ) (tree : Tree) → times n (pages_of tree) ≡ times n (root_of tree ∷ []) + times n (below_top tree)
+pub top_count : (n : ℕ) (tree : Tree) → times n (pages_of tree) ≡ times n (root_of tree ∷ []) + times n (below_top tree)
 top_count n (Leaf page rows) = omega arith
 top_count n (Child child key more) = omega (arith, top_count n more, times-append n (pages_of child) (pages_of more), times-append n (pages_of child) (below_top more))
 top_count n (Right page child) = omega arith
@@ -97,7 +97,7 @@ tops_count n pages (root ∷ roots) (tree ∷ trees) whole =
     )
 
 -- page 1 is named by the header or as a root, so it stands in no tree below its top
-none_below : (pages : Pages) (roots : List ℕ) (trees : List Tree) (trunks : List Trunk) → IsWholeFor pages roots trees trunks → times 1 (flat_map below_top trees) ≡ 0
+pub none_below : (pages : Pages) (roots : List ℕ) (trees : List Tree) (trunks : List Trunk) → IsWholeFor pages roots trees trunks → times 1 (flat_map below_top trees) ≡ 0
 none_below pages roots trees trunks whole =
     let a = tops_count 1 pages roots trees whole.each_tree in
     let b = times-append 1 (used_pages roots trees) (free_pages trunks) in

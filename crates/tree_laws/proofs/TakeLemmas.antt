@@ -48,13 +48,13 @@ head_changes old new head there least = record {
 not_greater : (n : ℕ) → nat_lt greatest_length n ≡ false → n ≤ greatest_length
 not_greater n e = grind (arith, common_steps)
 
-not_too_long : (pages : Pages) → HasHeader pages → page_of (unsized_header pages) * pages.size ≤ greatest_length
+pub not_too_long : (pages : Pages) → HasHeader pages → page_of (unsized_header pages) * pages.size ≤ greatest_length
 not_too_long pages has =
     let len : ℕ = page_of (unsized_header pages) * pages.size in
     not_greater len (none_accepted (unsized_header pages) len None (no_fault _ (fields_of (unsized_header pages) len) has.accepted)).small
 
 -- no page is used and free
-apart : (pages : Pages) (roots : List ℕ) (trees : List Tree) (trunks : List Trunk) → IsWholeFor pages roots trees trunks → (n : ℕ) → Among (used_pages roots trees) n
+pub apart : (pages : Pages) (roots : List ℕ) (trees : List Tree) (trunks : List Trunk) → IsWholeFor pages roots trees trunks → (n : ℕ) → Among (used_pages roots trees) n
     → ¬ (Among (free_pages trunks) n)
 apart pages roots trees trunks whole n used free = omega (arith, used, free, whole.different.once n, times-append n (used_pages roots trees) (free_pages trunks))
 

@@ -48,7 +48,7 @@ cells_before before rest at ups is =
     ap (λ k. take k (C ++ rest) ++ (ups ++ drop k (C ++ rest))) e
     ∙ ap₂ (λ (a b : List InnerCell). a ++ (ups ++ b)) (take-append_seam C rest) (drop-append_seam C rest)
 
-cells_within : (before : List Piece) (run : Run) (child : Tree) (behind : Behind) (at : ℕ) → at ≡ length before → root_of run.last ≡ root_of child →
+pub cells_within : (before : List Piece) (run : Run) (child : Tree) (behind : Behind) (at : ℕ) → at ≡ length before → root_of run.last ≡ root_of child →
     cells_of (within before run behind).front ≡ with_ups at (cells_of run.front) (cells_of (within before (one child) behind).front)
 cells_within before run child Nothing at is top =
     map-append _ before run.front
@@ -62,11 +62,11 @@ cells_within before run child (Next key rest) at is top =
     ∙ sym (cells_before before (g (root_of child)) at (cells_of run.front) is)
     ∙ ap (with_ups at (cells_of run.front)) (sym (map-append _ before (record { tree = child; key = key } ∷ rest.front)))
 
-right_within : (before : List Piece) (run : Run) (child : Tree) (behind : Behind) → root_of run.last ≡ root_of child → root_of (within before run behind).last ≡ root_of (within before (one child) behind).last
+pub right_within : (before : List Piece) (run : Run) (child : Tree) (behind : Behind) → root_of run.last ≡ root_of child → root_of (within before run behind).last ≡ root_of (within before (one child) behind).last
 right_within before run child Nothing top = top
 right_within before run child (Next key rest) top = refl
 
-behind_stays : (old new : Pages) (kept : ℕ → Type 0) (high : ℤ) (depth : ℕ) (behind : Behind) → Keeps old new kept → ((n : ℕ) → Among (behind_pages behind) n → kept n) →
+pub behind_stays : (old new : Pages) (kept : ℕ → Type 0) (high : ℤ) (depth : ℕ) (behind : Behind) → Keeps old new kept → ((n : ℕ) → Among (behind_pages behind) n → kept n) →
     IsBehind old high depth behind → IsBehind new high depth behind
 behind_stays old new kept high depth Nothing keeps among is = tt
 behind_stays old new kept high depth (Next key rest) keeps among is = run_stays_where old new kept key high depth rest keeps among is
@@ -138,7 +138,7 @@ root_grows = record {
       omega (arith, run_over.named n root instead.run, instead.named n, ap (λ k. times n (k ∷ [])) is_root, times-append n fresh (page ∷ []));
 }
 
-as_root : (tree : Tree) → IsFilled 0 tree → IsFilledRoot tree
+pub as_root : (tree : Tree) → IsFilled 0 tree → IsFilledRoot tree
 as_root (Leaf page rows) filled = tt
 as_root (Child child key more) filled = filled
 as_root (Right page child) filled = absurd (omega (arith, filled.0))

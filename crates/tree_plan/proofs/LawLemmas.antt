@@ -25,19 +25,19 @@ use Rattle.tree_plan.specs.Law.{chain_at, without, RowPut, AreNumbered, AreOn, L
 
 -- a row among rows, by cases
 
-row_here : (row r : Row) (more : List Row) → rowid row ≤ℤ rowid r → rowid r ≤ℤ rowid row →
+pub row_here : (row r : Row) (more : List Row) → rowid row ≤ℤ rowid r → rowid r ≤ℤ rowid row →
     (put_row row (r ∷ more) ≡ row ∷ more) × (without (rowid row) (r ∷ more) ≡ more) × (chain_at (rowid row) (r ∷ more) ≡ r.chain)
 row_here row r more at back = let a = le_is (rowid row) (rowid r) at in let b = le_is (rowid r) (rowid row) back in (cc, cc, cc)
 
-row_before : (row r : Row) (more : List Row) → rowid row <ℤ rowid r →
+pub row_before : (row r : Row) (more : List Row) → rowid row <ℤ rowid r →
     (put_row row (r ∷ more) ≡ row ∷ r ∷ more) × (without (rowid row) (r ∷ more) ≡ r ∷ more) × (chain_at (rowid row) (r ∷ more) ≡ [])
 row_before row r more above = let a = le_is (rowid row) (rowid r) (grind (arith, above)) in let b = not_le_is (rowid r) (rowid row) above in (cc, cc, cc)
 
-row_past : (row r : Row) (more : List Row) → rowid r <ℤ rowid row →
+pub row_past : (row r : Row) (more : List Row) → rowid r <ℤ rowid row →
     (put_row row (r ∷ more) ≡ r ∷ put_row row more) × (without (rowid row) (r ∷ more) ≡ r ∷ without (rowid row) more) × (chain_at (rowid row) (r ∷ more) ≡ chain_at (rowid row) more)
 row_past row r more past = let a = not_le_is (rowid row) (rowid r) past in (cc, cc, cc)
 
-cells_put : (row : Row) (rows : List Row) → map (λ (r : Row). r.cell) (put_row row rows) ≡ put_cell row.cell (map (λ (r : Row). r.cell) rows)
+pub cells_put : (row : Row) (rows : List Row) → map (λ (r : Row). r.cell) (put_row row rows) ≡ put_cell row.cell (map (λ (r : Row). r.cell) rows)
 cells_put row [] = refl
 cells_put row (r ∷ more) =
     let inner = cells_put row more in
@@ -48,7 +48,7 @@ cells_put row (r ∷ more) =
     (λ above. let b = not_le_is (rowid r) (rowid row) above in cc))
     (λ past. let a = not_le_is (rowid row) (rowid r) past in cc)
 
-chains_put : (n : ℕ) (row : Row) (rows : List Row) → times n (chains_of (put_row row rows)) + times n (chain_at (rowid row) rows) ≡ times n (chains_of rows) + times n row.chain
+pub chains_put : (n : ℕ) (row : Row) (rows : List Row) → times n (chains_of (put_row row rows)) + times n (chain_at (rowid row) rows) ≡ times n (chains_of rows) + times n row.chain
 chains_put n row [] = omega (arith, times-append n row.chain [])
 chains_put n row (r ∷ more) =
     let inner = chains_put n row more in
@@ -159,7 +159,7 @@ inner_cut_parts : (number usable right : ℕ) (cells : List InnerCell) (sheets :
 inner_cut_parts number usable right cells sheets (inl is) = let P : List Sheet → Type 0 = λ l. AreInnerParts l sheets.last cells right in subst P (sym is.none) is.all
 inner_cut_parts number usable right cells sheets (inr up) = up.parts
 
-put_some : (row : Row) (rows : List Row) → 1 ≤ length (put_row row rows)
+pub put_some : (row : Row) (rows : List Row) → 1 ≤ length (put_row row rows)
 put_some row [] = omega arith
 put_some row (r ∷ more) =
     let P : List Row → Type 0 = λ l. 1 ≤ length l in

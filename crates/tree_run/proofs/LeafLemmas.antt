@@ -37,7 +37,7 @@ leaf_up pages low high page rows are has some = record {
   filled = some;
 }
 
-rises_to : (low high : ℤ) (rows : List Row) → RisesTo low high rows → Rises low rows × (last_rowid low rows ≤ℤ high)
+pub rises_to : (low high : ℤ) (rows : List Row) → RisesTo low high rows → Rises low rows × (last_rowid low rows ≤ℤ high)
 rises_to low high [] rise = (tt, rise)
 rises_to low high (row ∷ more) rise = let inner = rises_to (rowid row) high more rise.1 in ((rise.0, inner.0), inner.1)
 

@@ -1,0 +1,13 @@
+pub mod WayLemmas
+pub mod CountLemmas
+pub mod ClimbLemmas
+pub mod KeptLemmas
+pub mod ChainLemmas
+pub mod PutsLemmas
+pub mod FitLemmas
+pub mod TookLemmas
+pub mod RowLemmas
+pub mod PreparedLemmas
+pub mod WrittenLemmas
+pub mod DoneLemmas
+pub mod LargeLemmas

@@ -1,0 +1,4 @@
+pub mod Way
+pub mod Puts
+pub mod Keeps
+pub mod Large

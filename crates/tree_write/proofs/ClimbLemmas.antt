@@ -5,7 +5,7 @@ use Rattle.std.specs.List.{AllByRecursion}
 use Rattle.page_list.specs.Edits.{taken_numbers, after_takes}
 use Rattle.page_pool.specs.Space.{SpaceState, HasSizes}
 use Rattle.page_pool.specs.Pool.{NotesChange}
-use Rattle.payload_chain.specs.Chains.{TookEach, StopsTaking}
+use Rattle.payload_chain.specs.Chains.{TookEach}
 use Rattle.payload_chain.proofs.StateLemmas.{stays-same}
 use Rattle.payload_chain.proofs.TakeLemmas.{took-none}
 use Rattle.db_format.specs.declared.fault.SpaceFault.{SpaceFault}
@@ -18,7 +18,7 @@ use Rattle.page_cut.specs.Cut.{IsCut, AreFew}
 use Rattle.tree_level.specs.Level.{numbers}
 use Rattle.tree_plan.specs.Plan.{IsInnerPlan}
 use Rattle.tree_plan.specs.Climb.{on, Settles, RootSettles, AreClimbed}
-use Rattle.tree_write.specs.Climb.{MayClimb, IsPlanOf, Climbed, ClimbRefused}
+use Rattle.tree_write.specs.Climb.{MayClimb, IsPlanOf, Climbed, spare, ClimbRefused}
 use Rattle.tree_write.specs.Steps.{IsNext, StepsUp, RootSettled}
 use Rattle.tree_write.proofs.WriteLemmas.{noted-on}
 use Rattle.tree_write.proofs.TakesLemmas.{numbers-on, took-on, stops-on}
@@ -48,7 +48,8 @@ pub record ClimbsAlong (old now : SpaceState) (leaf : ℕ) (plan : Sheets) (all 
   pub took : TookEach old now count
   pub noted : NotesChange old now
   pub short : length sheets.front.items ≤ 2
-  pub few : count + length sheets.front.items + length left ≤ length all + 2
+  pub plan_short : length plan.front.items ≤ 2
+  pub few : count + length sheets.front.items + length left ≤ length plan.front.items + length all
   pub each : AllByRecursion (MayClimb old.pages.usable) left
   pub rest : IsTrue old.tells → (more : List ℕ) (others : List Sheet) → AreClimbed old.pages.usable number sheets (reverse left) more others
       → AreClimbed old.pages.usable leaf plan (reverse all) (taken_numbers old.page_size count old.pages ++ more) (out ++ others)
@@ -62,7 +63,8 @@ climbs-begin old leaf plan all sizes is each =
       took = (took-none sizes).took;
       noted = inr stays-same;
       short = short;
-      few = omega (arith, short);
+      plan_short = short;
+      few = omega arith;
       each = each;
       rest = λ t more others climbed. climbed;
     }
@@ -119,6 +121,7 @@ climbs-on {old = old} {now = now} {left = left} {sheets = sheets} new left' leve
       took = took-on along.took steps.placed.took;
       noted = noted-on along.took.steady along.noted noted;
       short = omega (arith, few);
+      plan_short = along.plan_short;
       few = omega (arith, few, long, along.few);
       each = all-front (MayClimb old.pages.usable) left' level (subst P pop along.each);
       rest = λ t more others climbed.
@@ -138,7 +141,7 @@ pub climbs-end : {old now : SpaceState} {leaf : ℕ} {plan : Sheets} {all left :
     → StepsUp now new number now.pages.usable sheets level out out' None → Climbed old new leaf plan all out'
 climbs-end {old = old} {now = now} {leaf = leaf} {plan = plan} {all = all} {number = number} {sheets = sheets} new left' level out' along pop steps = record {
   count = along.count + length sheets.front.items;
-  few = omega (arith, along.few);
+  few = omega (arith, along.few, along.plan_short);
   took = took-on along.took steps.placed.took;
   are = λ t.
       let P : List ℕ → Type 0 = λ l. AreClimbed old.pages.usable leaf plan (reverse all) l out' in
@@ -156,7 +159,7 @@ climbs-top {old = old} {now = now} {leaf = leaf} {plan = plan} {all = all} {numb
     let used = along.took.steady.used in
     record {
       count = along.count + root.count;
-      few = omega (arith, along.few, root.few);
+      few = omega (arith, along.few, along.plan_short, root.few);
       took = took-on along.took root.took;
       are = λ t.
           let told = along.took.steady.told ∙ t in
@@ -171,6 +174,7 @@ climbs-top {old = old} {now = now} {leaf = leaf} {plan = plan} {all = all} {numb
 
 -- a step is refused
 pub climb-stops : {old now : SpaceState} {leaf : ℕ} {plan : Sheets} {all left : List Level} {number : ℕ} {sheets : Sheets} {out : List Sheet}
-    (new : SpaceState) (needed : ℕ) (fault : SpaceFault) → ClimbsAlong old now leaf plan all left number sheets out → StopsTaking now new needed fault
-    → needed ≤ length sheets.front.items + 2 → ClimbRefused old new (length all) fault
-climb-stops {all = all} new needed fault along stops few = stops-on new (length all + 4) fault along.took stops (omega (arith, along.few, few))
+    (new : SpaceState) (needed : ℕ) (fault : SpaceFault) → ClimbsAlong old now leaf plan all left number sheets out → ClimbRefused now new needed fault
+    → needed ≤ length sheets.front.items + 1 → ClimbRefused old new (length plan.front.items + length all + 1) fault
+climb-stops {plan = plan} {all = all} new needed fault along stops few =
+    stops-on new (length plan.front.items + length all + 1 + spare fault) fault along.took stops (omega (arith, along.few, few))

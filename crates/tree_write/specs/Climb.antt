@@ -4,6 +4,7 @@ use Rattle.page_list.specs.Edits.{taken_numbers}
 use Rattle.page_pool.specs.Space.{SpaceState}
 use Rattle.payload_chain.specs.Chains.{TookEach, StopsTaking}
 use Rattle.db_format.specs.declared.fault.SpaceFault.{SpaceFault}
+use Rattle.db_format.specs.declared.fault.SpaceFault.TheVariants.{Failed, Memory, Bad, Corrupt, Large}
 use Rattle.tree_page.specs.declared.cell.PageCells.{PageCells}
 use Rattle.tree_page.specs.declared.cell.PageCells.TheVariants.{Interior}
 use Rattle.tree_page.specs.Written.{Fits}
@@ -32,6 +33,14 @@ pub record Climbed (old new : SpaceState) (number : ℕ) (plan : Sheets) (levels
   pub took : TookEach old new count
   pub are : IsTrue old.tells → AreClimbed old.pages.usable number plan (reverse levels) (taken_numbers old.page_size count old.pages) sheets
 
--- some of the pages were taken, and then the next take was refused, or there was no memory for what they are to hold
+-- want of memory may come once all pages are taken
+abbrev pub spare : SpaceFault → ℕ
+spare Failed = 0
+spare Memory = 1
+spare (Bad page kept found) = 0
+spare (Corrupt page) = 0
+spare (Large pages) = 0
+
+-- fewer pages than these were taken, and the next take was refused, or there was no memory for what they are to hold
 abbrev pub ClimbRefused : SpaceState → SpaceState → ℕ → SpaceFault → Type 0
-ClimbRefused old new levels fault = StopsTaking old new (levels + 4) fault
+ClimbRefused old new needed fault = StopsTaking old new (needed + spare fault) fault

@@ -6,7 +6,7 @@ ghost use Rattle.page_pool.specs.Pool.{NotesChange};
 ghost use Rattle.payload_chain.specs.Chains.{StopsTaking};
 ghost use Rattle.tree_page.specs.Page.{inner, rowid_of, AreRising};
 ghost use Rattle.tree_plan.specs.Climb.{on, Rises};
-ghost use Rattle.tree_write.specs.Climb.{MayClimb};
+ghost use Rattle.tree_write.specs.Climb.{MayClimb, ClimbRefused};
 ghost use Rattle.tree_write.specs.Steps.{key_at, EndsBelow, BeginsAbove, ArePlaced, IsNext, StepsUp};
 
 use page_cut::{Sheet, Sheets};
@@ -33,7 +33,7 @@ pub fn step_up<S: PageSpace>(
     requires level { MayClimb (S.state space.old).pages.usable level }
     ensures steady { Steady (S.state space.old) (S.state space.new) }
     ensures stepped { IfOk result (StepsUp (S.state space.old) (S.state space.new) number (S.state space.old).pages.usable sheets level out.old.items out.new.items) }
-    ensures refused { IfErr result (StopsTaking (S.state space.old) (S.state space.new) (length sheets.front.items + 1)) }
+    ensures refused { IfErr result (ClimbRefused (S.state space.old) (S.state space.new) (length sheets.front.items)) }
     ensures noted { NotesChange (S.state space.old) (S.state space.new) }
 {
     let Sheets { front, last } = sheets;

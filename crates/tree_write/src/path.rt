@@ -1,6 +1,6 @@
 //! From the leaf up to the root.
 
-ghost use Rattle.std.specs.Prelude.{◌≤◌, length, IfOk, IfErr};
+ghost use Rattle.std.specs.Prelude.{◌+◌, ◌≤◌, length, IfOk, IfErr};
 ghost use Rattle.std.specs.List.{AllByRecursion};
 ghost use Rattle.page_pool.specs.Space.{IsWritable, Steady};
 ghost use Rattle.page_pool.specs.Pool.{NotesChange};
@@ -20,7 +20,8 @@ use tree_model::Level;
 /// there are levels. Where in damaged pages the cells that come up do not rise among those above, the pages above stay
 /// as they are.
 ///
-/// Nothing is written but what the takes write. Refused as `take_page` is, and then some of the pages are taken.
+/// Nothing is written but what the takes write. Refused as `take_page` is, and then some of the pages are taken: fewer than
+/// one for each part of the page but the last, one for each level and one for the root.
 pub fn climb<S: PageSpace>(
     alloc: Global,
     space: &mut S,
@@ -34,7 +35,7 @@ pub fn climb<S: PageSpace>(
     requires plan { IsPlanOf number (S.state space.old).pages.usable plan }
     ensures steady { Steady (S.state space.old) (S.state space.new) }
     ensures climbed { IfOk result (λ sheets. Climbed (S.state space.old) (S.state space.new) number plan levels.items sheets.items) }
-    ensures refused { IfErr result (ClimbRefused (S.state space.old) (S.state space.new) (length levels.items)) }
+    ensures refused { IfErr result (ClimbRefused (S.state space.old) (S.state space.new) (length plan.front.items + length levels.items + 1)) }
     ensures noted { NotesChange (S.state space.old) (S.state space.new) }
 {
     let _pages = space.size();

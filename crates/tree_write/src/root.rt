@@ -3,9 +3,9 @@
 ghost use Rattle.std.specs.Prelude.{◌≡◌, ◌+◌, ◌≤◌, [], ◌∷◌, ◌++◌, length, IfOk, IfErr};
 ghost use Rattle.page_pool.specs.Space.{IsWritable, Steady};
 ghost use Rattle.page_pool.specs.Pool.{NotesChange};
-ghost use Rattle.payload_chain.specs.Chains.{StopsTaking};
 ghost use Rattle.tree_level.specs.Level.{up_cells};
 ghost use Rattle.tree_plan.specs.Climb.{RootFits};
+ghost use Rattle.tree_write.specs.Climb.{ClimbRefused};
 ghost use Rattle.tree_write.specs.Steps.{RootSettled};
 
 use crate::level::put_behind;
@@ -29,7 +29,7 @@ pub fn settle_root<S: PageSpace>(
     requires some { 1 ≤ (S.state space.old).pages.size }
     ensures steady { Steady (S.state space.old) (S.state space.new) }
     ensures settled { IfOk result (λ all. RootSettled (S.state space.old) (S.state space.new) root (S.state space.old).pages.usable sheets out.items all.items) }
-    ensures refused { IfErr result (StopsTaking (S.state space.old) (S.state space.new) (length sheets.front.items + 2)) }
+    ensures refused { IfErr result (ClimbRefused (S.state space.old) (S.state space.new) (length sheets.front.items + 1)) }
     ensures noted { NotesChange (S.state space.old) (S.state space.new) }
 {
     let mut out = out;
@@ -55,7 +55,7 @@ fn split_root<S: PageSpace>(
     requires over { ¬ (RootFits (S.state space.old).pages.usable root sheets) }
     ensures steady { Steady (S.state space.old) (S.state space.new) }
     ensures settled { IfOk result (λ all. RootSettled (S.state space.old) (S.state space.new) root (S.state space.old).pages.usable sheets out.items all.items) }
-    ensures refused { IfErr result (StopsTaking (S.state space.old) (S.state space.new) (length sheets.front.items + 2)) }
+    ensures refused { IfErr result (ClimbRefused (S.state space.old) (S.state space.new) (length sheets.front.items + 1)) }
     ensures noted { NotesChange (S.state space.old) (S.state space.new) }
 {
     let Sheets { front, last } = sheets;

@@ -11,7 +11,7 @@ use Rattle.tree_write.proofs.root.settle_root.Goals as goal
 pub returns-in_err-put_behind-clause-refused : goal.returns-in_err-put_behind-clause-refused
 returns-in_err-put_behind-clause-refused g c =
     let p = err_from_is_err_and c.from_residual.result c.from_residual.ensures.1 in
-    rw (p.1, p.2) (stops-memory (length c.args.sheets.front.items + 2) (took-none c.usable-usable.ensures.sizes).took (omega arith))
+    rw (p.1, p.2) (stops-memory (length c.args.sheets.front.items + 1 + 1) (took-none c.usable-usable.ensures.sizes).took (omega arith))
 
 pub returns-clause-settled : goal.returns-clause-settled
 returns-clause-settled g c =

@@ -1,0 +1,4 @@
+mod MoveLemmas
+mod CellLemmas
+mod PutLemmas
+mod RootLemmas

@@ -1,0 +1,69 @@
+-- A put and a new root as a whole: what they leave of pages of any bytes.
+use Rattle.std.specs.Prelude.{◌≡◌, ◌⊎◌, ℕ, Bool, ℤ, List, length, Option, None, is_some, IsTrue}
+use Rattle.db_format.specs.declared.fault.SpaceFault.{SpaceFault}
+use Rattle.page_pool.specs.Space.{SpaceState, Steady, Stays}
+use Rattle.payload_chain.specs.Chains.{Midway, midway}
+use Rattle.tree_page.specs.declared.cell.LeafCell.{LeafCell}
+use Rattle.tree_model.specs.declared.ends.PathEnd.TheVariants.{Ends}
+use Rattle.tree_model.specs.Walk.{Path}
+use Rattle.tree_search.specs.declared.path.Descent.{Descent}
+use Rattle.tree_search.specs.Search.{Descends, IsDescent, SearchRefused}
+use Rattle.rowid_tree.specs.Steps.{CellWritten, CellRefused, CellPlaced, PlaceRefused, ReplacedFreed, FreeingRefused}
+
+-- the search for the rowid found this way, and nothing has changed
+pub record WayFound (old new : SpaceState) (root : ℕ) (rowid : ℤ) (descent : Descent) : Type 0 where
+  pub steady : Steady old new
+  pub stays : Stays old new
+  pub found : IsTrue old.tells → Descends old.pages rowid root descent.levels.items descent.leaf descent.cells
+  pub sound : IsDescent old.pages.size old.pages.usable descent
+
+-- then the cell of the row was written
+pub record WroteCell (old new : SpaceState) (root : ℕ) (rowid : ℤ) (payload : List ℕ) (descent : Descent) (cell : LeafCell) : Type 0 where
+  pub searched : Midway
+  pub way : WayFound old (midway old searched) root rowid descent
+  pub wrote : CellWritten (midway old searched) new rowid payload cell
+
+-- and put into the leaf
+pub record PlacedCell (old new : SpaceState) (root : ℕ) (rowid : ℤ) (payload : List ℕ) (replaced : Option LeafCell) : Type 0 where
+  pub descent : Descent
+  pub cell : LeafCell
+  pub written : Midway
+  pub before : WroteCell old (midway old written) root rowid payload descent cell
+  pub placed : CellPlaced (midway old written) new descent cell replaced
+
+-- and the chain of the cell that it replaced was given back
+pub record PutDone (old new : SpaceState) (root : ℕ) (rowid : ℤ) (payload : List ℕ) (replaced : Bool) : Type 0 where
+  pub was : Option LeafCell
+  pub placed : Midway
+  pub before : PlacedCell old (midway old placed) root rowid payload was
+  pub steady : Steady (midway old placed) new
+  pub freed : ReplacedFreed (midway old placed) new was
+  pub told : replaced ≡ is_some was
+
+-- the way was found, and the cell was not written
+pub record StopsAtCell (old new : SpaceState) (root : ℕ) (rowid : ℤ) (payload : List ℕ) (fault : SpaceFault) : Type 0 where
+  pub descent : Descent
+  pub searched : Midway
+  pub way : WayFound old (midway old searched) root rowid descent
+  pub refused : CellRefused (midway old searched) new payload fault
+
+-- the cell was written, and not put into the leaf
+pub record StopsAtLeaf (old new : SpaceState) (root : ℕ) (rowid : ℤ) (payload : List ℕ) (fault : SpaceFault) : Type 0 where
+  pub descent : Descent
+  pub cell : LeafCell
+  pub written : Midway
+  pub before : WroteCell old (midway old written) root rowid payload descent cell
+  pub refused : PlaceRefused (midway old written) new descent cell fault
+
+-- the cell was put into the leaf, and the chain of the one that it replaced was not given back
+pub record StopsAtChain (old new : SpaceState) (root : ℕ) (rowid : ℤ) (payload : List ℕ) (fault : SpaceFault) : Type 0 where
+  pub was : Option LeafCell
+  pub placed : Midway
+  pub before : PlacedCell old (midway old placed) root rowid payload was
+  pub refused : FreeingRefused (midway old placed) new was fault
+
+-- why a put was refused, and what stands then: nothing has changed where the search was refused
+abbrev pub PutRefused : SpaceState → SpaceState → ℕ → ℤ → List ℕ → SpaceFault → Type 0
+PutRefused old new root rowid payload fault =
+    (Stays old new × SearchRefused old new (λ f. Path None old.pages root rowid (Ends f)) fault)
+    ⊎ (StopsAtCell old new root rowid payload fault ⊎ (StopsAtLeaf old new root rowid payload fault ⊎ StopsAtChain old new root rowid payload fault))

@@ -1,0 +1,14 @@
+//! Trees of rows by rowid in a page space: a new root, a row put, a row found, and the next row.
+//!
+//! After sqlite.org, "Database File Format", section 1.6, "B-tree Pages".
+#![tactic(auto)]
+
+mod cell;
+mod place;
+mod puts;
+mod root;
+
+pub use page_pool::{MemSpace, PageSpace, SpaceFault};
+pub use puts::put;
+pub use root::make_root;
+pub use tree_search::{find, next_from};

@@ -1,0 +1,34 @@
+//! A row put into a tree.
+
+ghost use Rattle.std.specs.Prelude.{◌≤◌, IfOk, IfErr};
+ghost use Rattle.page_pool.specs.Space.{IsWritable, Steady};
+ghost use Rattle.page_pool.specs.Pool.{NotesChange};
+ghost use Rattle.rowid_tree.specs.Puts.{PutDone, PutRefused};
+
+use crate::cell::{free_replaced, write_cell};
+use crate::place::place_cell;
+use page_pool::{PageSpace, SpaceFault};
+use std::alloc::Global;
+use tree_search::descend;
+
+/// Puts the row of `rowid` with this payload into the tree from page `root`, and answers whether it replaced one.
+pub fn put<S: PageSpace>(
+    alloc: Global,
+    space: &mut S,
+    root: u32,
+    rowid: i64,
+    payload: &[u8],
+) -> Result<bool, SpaceFault>
+    requires writable { IsWritable (S.state space.old) }
+    requires some { 1 ≤ (S.state space.old).pages.size }
+    ensures steady { Steady (S.state space.old) (S.state space.new) }
+    ensures done { IfOk result (PutDone (S.state space.old) (S.state space.new) root rowid payload.now) }
+    ensures refused { IfErr result (PutRefused (S.state space.old) (S.state space.new) root rowid payload.now) }
+    ensures noted { NotesChange (S.state space.old) (S.state space.new) }
+{
+    let descent = descend(alloc, space, root, rowid)?;
+    let cell = write_cell(alloc, space, rowid, payload)?;
+    let replaced = place_cell(alloc, space, descent, cell)?;
+    free_replaced(alloc, space, &replaced)?;
+    Ok(replaced.is_some())
+}

@@ -2,3 +2,4 @@ mod MoveLemmas
 mod CellLemmas
 mod PutLemmas
 mod RootLemmas
+mod WholeLemmas

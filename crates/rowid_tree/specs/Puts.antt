@@ -1,11 +1,16 @@
 -- A put and a new root as a whole: what they leave of pages of any bytes.
-use Rattle.std.specs.Prelude.{◌≡◌, ◌⊎◌, ℕ, Bool, ℤ, List, length, Option, None, is_some, IsTrue}
+use Rattle.std.specs.Prelude.{◌≡◌, ◌⊎◌, ℕ, Bool, ℤ, List, ◌∷◌, ◌++◌, Option, None, is_some, IsTrue}
 use Rattle.db_format.specs.declared.fault.SpaceFault.{SpaceFault}
 use Rattle.page_pool.specs.Space.{SpaceState, Steady, Stays}
+use Rattle.page_list.specs.Pages.{Pages}
+use Rattle.page_list.specs.Freelist.{Trunk}
 use Rattle.payload_chain.specs.Chains.{Midway, midway}
 use Rattle.tree_page.specs.declared.cell.LeafCell.{LeafCell}
 use Rattle.tree_model.specs.declared.ends.PathEnd.TheVariants.{Ends}
 use Rattle.tree_model.specs.Walk.{Path}
+use Rattle.tree_model.specs.Tree.{Tree, root_of}
+use Rattle.tree_model.specs.Whole.{IsWholeFor}
+use Rattle.tree_put.specs.Keeps.{IsPut}
 use Rattle.tree_search.specs.declared.path.Descent.{Descent}
 use Rattle.tree_search.specs.Search.{Descends, IsDescent, SearchRefused}
 use Rattle.rowid_tree.specs.Steps.{CellWritten, CellRefused, CellPlaced, PlaceRefused, ReplacedFreed, FreeingRefused}
@@ -67,3 +72,9 @@ abbrev pub PutRefused : SpaceState → SpaceState → ℕ → ℤ → List ℕ �
 PutRefused old new root rowid payload fault =
     (Stays old new × SearchRefused old new (λ f. Path None old.pages root rowid (Ends f)) fault)
     ⊎ (StopsAtCell old new root rowid payload fault ⊎ (StopsAtLeaf old new root rowid payload fault ⊎ StopsAtChain old new root rowid payload fault))
+
+-- over whole pages, where the tree from the root is one of them, the row is put: they are whole, with another tree in its place,
+-- whose rows are those before with this one among them, and all that `IsPut` says of the pages beside
+pub record PutsRow (old new : Pages) (root : ℕ) (rowid : ℤ) (payload : List ℕ) (replaced : Bool) : Type 0 where
+  pub each : (roots : List ℕ) (before behind : List Tree) (tree : Tree) (trunks : List Trunk) → IsWholeFor old roots (before ++ tree ∷ behind) trunks
+      → root_of tree ≡ root → IsPut old new roots before tree behind trunks rowid payload replaced

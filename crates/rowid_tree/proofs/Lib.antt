@@ -3,3 +3,4 @@ mod CellLemmas
 mod PutLemmas
 mod RootLemmas
 mod WholeLemmas
+mod AddLemmas

@@ -1,14 +1,16 @@
 -- A new root: what it leaves of pages of any bytes.
 -- After sqlite.org, "Database File Format", section 1.6, "B-tree Pages".
-use Rattle.std.specs.Prelude.{◌≡◌, ◌⊎◌, ℕ, List, [], ◌∷◌, take, IsTrue}
+use Rattle.std.specs.Prelude.{◌≡◌, ◌⊎◌, ℕ, List, [], ◌∷◌, ◌++◌, take, IsTrue}
 use Rattle.db_format.specs.declared.fault.SpaceFault.{SpaceFault}
 use Rattle.page_list.specs.Pages.{Pages, HasPage, IsGood}
-use Rattle.page_list.specs.Freelist.{HasHead}
+use Rattle.page_list.specs.Freelist.{Trunk, HasHead, take_each}
 use Rattle.page_list.specs.Edits.{taken_number, after_take}
 use Rattle.page_pool.specs.Space.{SpaceState, Steady}
 use Rattle.page_pool.specs.Pool.{Grows, Taken, TakeRefused}
 use Rattle.payload_chain.specs.Chains.{Midway, midway, OnlyThese, PutRefused}
 use Rattle.tree_page.specs.declared.cell.PageCells.TheVariants.{Leaf as LeafPage}
+use Rattle.tree_model.specs.Tree.{Tree, Leaf}
+use Rattle.tree_model.specs.Whole.{IsWholeFor}
 use Rattle.tree_model.specs.Held.{HasCells}
 
 -- a leaf without a row was written to a page: no other page has changed, and page 1 keeps the header of the database
@@ -48,3 +50,9 @@ pub record StopsAtRoot (old new : SpaceState) (fault : SpaceFault) : Type 0 wher
 -- why there is no new root, and what stands then
 abbrev pub RootRefused : SpaceState → SpaceState → SpaceFault → Type 0
 RootRefused old new fault = TakeRefused old new fault ⊎ StopsAtRoot old new fault
+
+-- over whole pages, whichever roots and trees they have, there is one root more, of a tree without a row; all other trees are the
+-- same, and the freelist has lost the page where it had it
+pub record AddsRoot (old new : Pages) (number : ℕ) : Type 0 where
+  pub each : (roots : List ℕ) (trees : List Tree) (trunks : List Trunk) → IsWholeFor old roots trees trunks
+      → IsWholeFor new (roots ++ number ∷ []) (trees ++ Leaf number [] ∷ []) (take_each 1 trunks)

@@ -1,11 +1,13 @@
-use Rattle.std.proofs.Common.{inr}
-use Rattle.std.proofs.lemmas.Result.{err_from_is_err_and}
-use Rattle.rowid_tree.proofs.RootLemmas.{stops_at_root}
+use Rattle.std.proofs.lemmas.Result.{IfOk-weaker}
+use Rattle.rowid_tree.specs.Roots.{RootMade, AddsRoot}
+use Rattle.rowid_tree.proofs.AddLemmas.{adds_root}
 use Rattle.rowid_tree.proofs.root.make_root.Goals as goal
 
-pub returns-in_err-write_empty-clause-refused : goal.returns-in_err-write_empty-clause-refused
-returns-in_err-write_empty-clause-refused g c =
-    let p = err_from_is_err_and c.from_residual-in_err-write_empty.result c.from_residual-in_err-write_empty.ensures.1 in
-    rw (p.1, p.2)
-    (inr (stops_at_root c.in_ok-number.number c.in_err-write_empty.field-0.0 c.in_ok-number.ensures.steady c.in_err-write_empty.ensures.steady c.in_ok-number.ensures.taken
-    c.in_err-write_empty.ensures.refused))
+pub returns-clause-adds : goal.returns-clause-adds
+returns-clause-adds g c = λ t.
+    let state = g.S.PageSpace.state in
+    let old = state c.args.space.now in
+    let new = state c.take_root.new.space in
+    IfOk-weaker c.take_root.result (RootMade old new) (AddsRoot old.pages new.pages)
+    (λ number made. adds_root c.whole_takes.ensures c.header_size.ensures c.root_added.ensures old new number t c.size-size.ensures.sizes c.take_root.ensures.steady made)
+    c.take_root.ensures.made

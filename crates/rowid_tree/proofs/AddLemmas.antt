@@ -1,7 +1,7 @@
 -- A root more in whole pages.
 use Rattle.std.proofs.Common.{◌≡◌, inl, inr, ℕ, ◌+◌, ◌*◌, ◌≤◌, ◌<◌, List, [], ◌∷◌, ◌++◌, IsTrue, refl, sym, subst, arith, mul-le-mul_left}
 use Rattle.db_format.specs.Header.{greatest_length}
-use Rattle.page_list.specs.Pages.{Pages, HasPage, Among}
+use Rattle.page_list.specs.Pages.{Pages, Among}
 use Rattle.page_list.specs.Freelist.{Trunk, take_each}
 use Rattle.page_list.specs.Edits.{taken_number, after_take}
 use Rattle.page_list.proofs.TimesLemmas.{among-here, same_or_other}

@@ -1,5 +1,5 @@
 -- The cell of a row, and the cell that it replaces.
-use Rattle.std.proofs.Common.{◌≡◌, inl, inr, ℕ, ◌-◌, ◌≤◌, ◌+◌, ℤ, int_le, Bool, true, false, if◌then◌else◌, List, [], ◌∷◌, length, take, drop, map, Option, None, Some, IfSome, refl, sym, ap, subst, ◌∙◌, arith, length-drop}
+use Rattle.std.proofs.Common.{◌≡◌, inl, inr, ℕ, ◌≤◌, ℤ, int_le, Bool, true, false, if◌then◌else◌, List, [], ◌∷◌, length, take, drop, map, Option, None, Some, IfSome, sym, ap, subst, ◌∙◌, arith, length-drop}
 use Rattle.std.proofs.lemmas.Bool.Decides.{nat_tests}
 use Rattle.std.proofs.lemmas.List.{length-take-le}
 use Rattle.std.specs.List.{AllByRecursion}
@@ -8,12 +8,12 @@ use Rattle.page_pool.specs.Space.{SpaceState, Steady}
 use Rattle.tree_page.specs.declared.cell.LeafCell.{LeafCell}
 use Rattle.tree_page.specs.declared.cell.PageCells.TheVariants.{Leaf as LeafPage, Interior as InnerPage}
 use Rattle.tree_page.specs.Page.{leaf}
-use Rattle.tree_page.specs.Written.{Fits, IsSound, KeepsLocal}
+use Rattle.tree_page.specs.Written.{Fits, IsSound}
 use Rattle.tree_model.specs.declared.level.Level.{Level}
 use Rattle.tree_plan.specs.Plan.{cell_of}
 use Rattle.tree_search.specs.declared.path.Descent.{Descent}
 use Rattle.tree_search.specs.Search.{IsStep, IsDescent}
-use Rattle.rowid_tree.specs.Steps.{local_part, rest_part, RestWritten, CellWritten}
+use Rattle.rowid_tree.specs.Steps.{rest_part, RestWritten, CellWritten}
 
 -- no more is kept than there is
 pub local_within : (usable len : ℕ) → local_size usable len ≤ len

@@ -1,11 +1,11 @@
 -- A step from one state to the next, said of these states as states midway from another.
-use Rattle.std.proofs.Common.{◌≡◌, inl, inr, ℕ, ◌+◌, List, [], ◌∷◌, length, Option, None, Some, Ok, Err, Result, refl, sym, ◌∙◌, arith, IsTrue}
-use Rattle.page_list.specs.Pages.{Pages, Among, IsGood}
+use Rattle.std.proofs.Common.{◌≡◌, inl, inr, ℕ, ◌+◌, List, length, Option, None, Some, Ok, Err, Result, refl, sym, ◌∙◌}
+use Rattle.page_list.specs.Pages.{Among, IsGood}
 use Rattle.page_list.specs.Chain.{pages_needed}
-use Rattle.page_list.specs.Edits.{taken_number, taken_numbers, after_takes, after_gives}
-use Rattle.page_pool.specs.Space.{SpaceState, HasSizes, Steady, Stays, IsLarge}
+use Rattle.page_list.specs.Edits.{taken_numbers, after_takes, after_gives}
+use Rattle.page_pool.specs.Space.{SpaceState, Steady, Stays}
 use Rattle.page_pool.specs.Pool.{TakeRefused, GiveRefused}
-use Rattle.payload_chain.specs.Chains.{Midway, midway, MayTakeEach, TookEach, MayGiveEach, GaveEach, Freed, StopsFreeing, FreeRefused, ReadRefused, Wrote, StopsTaking, StopsPutting, OnlyThese, PutRefused, WriteRefused, with_chain}
+use Rattle.payload_chain.specs.Chains.{Midway, midway, MayTakeEach, TookEach, MayGiveEach, GaveEach, FreeRefused, ReadRefused, Wrote, StopsTaking, OnlyThese, PutRefused, WriteRefused, with_chain}
 use Rattle.payload_chain.proofs.StateLemmas.{here, at_same}
 use Rattle.db_format.specs.declared.fault.SpaceFault.{SpaceFault}
 use Rattle.db_format.specs.declared.fault.SpaceFault.TheVariants.{Failed, Memory, Bad, Corrupt, Large}
@@ -16,9 +16,9 @@ use Rattle.page_cut.specs.declared.parts.Sheets.{Sheets}
 use Rattle.tree_plan.specs.Climb.{AreClimbed}
 use Rattle.std.specs.Prelude.{reverse}
 use Rattle.tree_search.specs.declared.path.Descent.{Descent}
-use Rattle.tree_write.specs.Climb.{Climbed}
+use Rattle.tree_write.specs.Climb.{spare, Climbed}
 use Rattle.tree_write.specs.Write.{WriteLeaves}
-use Rattle.rowid_tree.specs.Steps.{RestWritten, RestRefused, CellWritten, CellRefused, CellPlaced, StopsClimbing, StopsWriting, PlaceRefused, ReplacedFreed, FreeingRefused}
+use Rattle.rowid_tree.specs.Steps.{RestWritten, CellWritten, CellRefused, CellPlaced, PlaceRefused, ReplacedFreed, FreeingRefused}
 
 -- the state b is one of a run that began at a, and a' one to which the run leads
 pub record Moved (a b a' : SpaceState) : Type 0 where
@@ -198,7 +198,7 @@ place_refused-moved c descent cell fault m (inl none) = inl (none.0, stays-moved
 place_refused-moved c descent cell fault m (inr (inl stops)) = inr (inl (record {
   plan = stops.plan;
   planned = stops.planned;
-  refused = stops_taking-moved c (length descent.levels.items + 4) fault m stops.refused;
+  refused = stops_taking-moved c (length stops.plan.sheets.front.items + length descent.levels.items + 1 + spare fault) fault m stops.refused;
 }))
 place_refused-moved {b = b} c descent cell fault m (inr (inr stops)) = inr (inr (record {
   plan = stops.plan;

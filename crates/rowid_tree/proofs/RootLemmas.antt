@@ -1,11 +1,10 @@
 -- A leaf without a row, written to a page that was taken.
-use Rattle.std.proofs.Common.{◌≡◌, inl, inr, ℕ, ◌≤◌, ◌+◌, List, [], ◌∷◌, OnOk, Result, Ok, Err, refl, sym, ap, subst, ◌∙◌, arith}
+use Rattle.std.proofs.Common.{◌≡◌, ℕ, ◌≤◌, ◌+◌, [], ◌∷◌, OnOk, Result, Ok, Err, sym, subst, ◌∙◌, arith}
 use Rattle.std.proofs.lemmas.Bool.Decides.{nat_tests}
-use Rattle.page_list.specs.Pages.{Pages, HasPage, times, AllDifferent}
+use Rattle.page_list.specs.Pages.{HasPage, AllDifferent}
 use Rattle.page_list.proofs.TimesLemmas.{times_one}
 use Rattle.page_pool.specs.Space.{SpaceState, HasSizes, Steady}
 use Rattle.page_pool.specs.Pool.{Taken}
-use Rattle.payload_chain.specs.Chains.{midway}
 use Rattle.payload_chain.proofs.StateLemmas.{here, steady-on}
 use Rattle.db_format.specs.declared.fault.SpaceFault.{SpaceFault}
 use Rattle.tree_model.specs.Held.{HasCells}

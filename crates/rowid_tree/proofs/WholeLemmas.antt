@@ -1,5 +1,5 @@
 -- A put that was done over a space that tells is one of its pages alone.
-use Rattle.std.proofs.Common.{◌≡◌, inl, inr, ℕ, suc, ◌≤◌, ℤ, ◌<ℤ◌, ◌≤ℤ◌, int_le, Bool, true, false, if◌then◌else◌, List, [], ◌∷◌, length, drop, Option, None, Some, is_some, IsTrue, refl, sym, ap, subst, ◌∙◌}
+use Rattle.std.proofs.Common.{◌≡◌, inl, inr, ℕ, ℤ, ◌<ℤ◌, ◌≤ℤ◌, Bool, List, [], ◌∷◌, length, drop, Option, None, Some, is_some, IsTrue, refl, sym, ap, subst, ◌∙◌}
 use Rattle.std.specs.Prelude.{reverse}
 use Rattle.std.specs.List.{AllByRecursion}
 use Rattle.db_format.specs.Spill.{local_size}
@@ -7,33 +7,19 @@ use Rattle.page_list.specs.Pages.{Pages, HasPage}
 use Rattle.page_list.specs.Chain.{pages_needed}
 use Rattle.page_list.specs.Edits.{taken_numbers}
 use Rattle.page_pool.specs.Space.{SpaceState}
-use Rattle.payload_chain.specs.Chains.{Midway, midway, with_chain}
+use Rattle.payload_chain.specs.Chains.{midway, with_chain}
 use Rattle.tree_page.specs.declared.cell.LeafCell.{LeafCell}
-use Rattle.tree_page.specs.declared.cell.InnerCell.{InnerCell}
 use Rattle.tree_page.specs.Written.{Fits}
-use Rattle.tree_model.specs.declared.level.Level.{Level}
 use Rattle.tree_model.specs.Held.{HasCells}
-use Rattle.tree_model.specs.Walk.{child_for}
 use Rattle.tree_model.specs.Whole.{below_all, greatest}
 use Rattle.page_cut.specs.declared.parts.Sheet.{Sheet}
 use Rattle.tree_plan.specs.Plan.{IsLeafPlan}
 use Rattle.tree_plan.specs.Climb.{AreClimbed}
 use Rattle.tree_write.specs.Write.{MayStand}
-use Rattle.tree_search.specs.Search.{place_for, Descends}
-use Rattle.tree_put.specs.Search.{place_for as place_in, Descends as GoesDown}
+use Rattle.tree_search.specs.Search.{Descends}
 use Rattle.tree_put.specs.Keeps.{IsChained, IsGiven, PutDone as PagesPut, PutKeepsWhole}
 use Rattle.rowid_tree.specs.Steps.{RestWritten, ReplacedFreed}
 use Rattle.rowid_tree.specs.Puts.{PutDone, PutsRow}
-
-place_as : (key : ℤ) (cells : List InnerCell) → place_for key cells ≡ place_in key cells
-place_as key [] = refl
-place_as key (cell ∷ more) = ap (λ n. if int_le key cell.rowid then 0 else suc n) (place_as key more)
-
-way_as : (pages : Pages) (key : ℤ) (page : ℕ) (levels : List Level) (leaf : ℕ) (cells : List LeafCell) → Descends pages key page levels leaf cells
-    → GoesDown pages key page levels leaf cells
-way_as pages key page [] leaf cells way = way
-way_as pages key page (level ∷ more) leaf cells way =
-    (way.0, way.1, way.2 ∙ place_as key level.cells, way_as pages key (child_for key level.cells level.right) more leaf cells way.3)
 
 chained : (old new : SpaceState) (rest : List ℕ) (first : ℕ) → IsTrue old.tells → RestWritten old new rest first → IsChained old.page_size old.pages new.pages rest first
 chained old new rest first told (inl none) = inl (none.0, none.1, none.2.pages_stay told)
@@ -66,10 +52,10 @@ pages_put old new root key payload replaced told above below done =
     let placed = put.placed in
     let is : searched ≡ old.pages = way.stays.pages_stay told in
     let leaves = placed.leaves told in
-    let D : Pages → Type 0 = λ p. GoesDown p key root put.descent.levels.items put.descent.leaf put.descent.cells in
+    let D : Pages → Type 0 = λ p. Descends p key root put.descent.levels.items put.descent.leaf put.descent.cells in
     let L : ℕ → Type 0 = λ u. IsLeafPlan put.descent.leaf u put.descent.cells put.cell placed.plan in
     let C : ℕ → Type 0 = λ u.
-        AreClimbed u put.descent.leaf placed.plan.sheets (reverse put.descent.levels.items) (taken_numbers old.page_size placed.climbed.count put.written.pages) placed.sheets in
+    AreClimbed u put.descent.leaf placed.plan.sheets (reverse put.descent.levels.items) (taken_numbers old.page_size placed.climbed.count put.written.pages) placed.sheets in
     let G : Option LeafCell → Type 0 = λ o. IsGiven old.page_size done.placed.pages new.pages o in
     let P : Pages → Type 0 = λ p. PagesPut old.page_size p new.pages root key payload replaced in
     subst P is (record {
@@ -81,7 +67,7 @@ pages_put old new root key payload replaced told above below done =
       levels = put.descent.levels.items;
       leaf = put.descent.leaf;
       cells = put.descent.cells;
-      descends = subst D (sym is) (way_as old.pages key root put.descent.levels.items put.descent.leaf put.descent.cells (way.found told));
+      descends = subst D (sym is) (way.found told);
       chained = put.written.pages;
       first = put.cell.overflow;
       chain = chained (midway old put.before.searched) (midway old put.written) (drop (local_size searched.usable (length payload)) payload) put.cell.overflow told wrote.rest;

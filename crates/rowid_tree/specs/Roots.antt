@@ -5,7 +5,7 @@ use Rattle.db_format.specs.declared.fault.SpaceFault.{SpaceFault}
 use Rattle.page_list.specs.Pages.{Pages, HasPage, IsGood}
 use Rattle.page_list.specs.Freelist.{Trunk, HasHead, take_each}
 use Rattle.page_list.specs.Edits.{taken_number, after_take}
-use Rattle.page_pool.specs.Space.{SpaceState, Steady}
+use Rattle.page_pool.specs.Space.{SpaceState}
 use Rattle.page_pool.specs.Pool.{Grows, Taken, TakeRefused}
 use Rattle.payload_chain.specs.Chains.{Midway, midway, OnlyThese, PutRefused}
 use Rattle.tree_page.specs.declared.cell.PageCells.TheVariants.{Leaf as LeafPage}

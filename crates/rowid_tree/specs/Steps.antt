@@ -1,7 +1,7 @@
 -- The steps of a put: the cell of the row is written, put into the leaf that the search found, and the chain of the cell
 -- that it replaced is given back.
 -- After sqlite.org, "Database File Format", section 1.6, "B-tree Pages".
-use Rattle.std.specs.Prelude.{◌≡◌, ◌⊎◌, ℕ, ◌-◌, ◌≤◌, ℤ, List, [], length, take, drop, Option, Some, None, Ok, Err}
+use Rattle.std.specs.Prelude.{◌≡◌, ◌⊎◌, ℕ, ◌+◌, ◌-◌, ◌≤◌, ℤ, List, [], length, take, drop, Option, Some, None, Ok, Err}
 use Rattle.db_format.specs.Spill.{local_size}
 use Rattle.db_format.specs.declared.fault.SpaceFault.{SpaceFault}
 use Rattle.db_format.specs.declared.fault.SpaceFault.TheVariants.{Memory}
@@ -61,7 +61,7 @@ pub record CellPlaced (old new : SpaceState) (descent : Descent) (cell : LeafCel
 pub record StopsClimbing (old new : SpaceState) (descent : Descent) (cell : LeafCell) (fault : SpaceFault) : Type 0 where
   pub plan : LeafPlan
   pub planned : IsLeafPlan descent.leaf old.pages.usable descent.cells cell plan
-  pub refused : ClimbRefused old new (length descent.levels.items) fault
+  pub refused : ClimbRefused old new (length plan.sheets.front.items + length descent.levels.items + 1) fault
 
 -- all pages were taken, and one that is to be written was refused
 pub record StopsWriting (old new : SpaceState) (descent : Descent) (cell : LeafCell) (fault : SpaceFault) : Type 0 where

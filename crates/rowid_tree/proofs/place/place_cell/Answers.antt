@@ -1,9 +1,6 @@
-use Rattle.std.proofs.Common.{◌≡◌, ◌∙◌, inl, inr, refl, ap, subst, sym, Ok, IsTrue, List, ℕ, length}
+use Rattle.std.proofs.Common.{inl, inr, subst, ℕ}
 use Rattle.std.proofs.lemmas.Result.{err_from_is_err_and}
-use Rattle.payload_chain.proofs.StateLemmas.{here, steady-on}
-use Rattle.tree_plan.specs.declared.leaf.LeafPlan.{LeafPlan}
 use Rattle.tree_plan.specs.Plan.{IsLeafPlan}
-use Rattle.page_cut.specs.declared.parts.Sheet.{Sheet}
 use Rattle.rowid_tree.proofs.CellLemmas.{replaced_kept}
 use Rattle.rowid_tree.proofs.PutLemmas.{cell_placed, stops_writing}
 use Rattle.rowid_tree.proofs.place.place_cell.Goals as goal

@@ -1,8 +1,7 @@
 use Rattle.std.proofs.Common.{◌∙◌, inl, inr, IsTrue, None, arith}
 use Rattle.std.proofs.lemmas.Int.{to_z-of_z}
 use Rattle.std.proofs.lemmas.Result.{err_from_is_err_and}
-use Rattle.db_format.specs.declared.fault.SpaceFault.{SpaceFault}
-use Rattle.payload_chain.proofs.StateLemmas.{here, steady-on}
+use Rattle.payload_chain.proofs.StateLemmas.{steady-on}
 use Rattle.tree_write.proofs.WriteLemmas.{noted-on}
 use Rattle.tree_model.specs.declared.ends.Fault.{Fault}
 use Rattle.tree_model.specs.declared.ends.PathEnd.TheVariants.{Ends}

@@ -4,6 +4,14 @@ pub mod Name
 pub mod NameFields
 pub mod PatternFields
 pub mod File
-pub mod Store
 pub mod Effect
+pub mod Store
+pub mod Mark
+pub mod Sums
+pub mod View
+pub mod Sound
+pub mod Glob
+pub mod Pass
+pub mod Stack
 pub mod Lock
+pub mod Laws

@@ -4,19 +4,17 @@
 //! Nothing here reads or writes a file. Every crate above cites these definitions.
 #![tactic(auto)]
 
-ghost use Rattle.vfs_model.specs.File.{OnlyImage};
-
+mod laws;
 mod layer;
 mod level;
 mod name;
 mod pattern;
 
+pub use laws::{
+    both_settle, looser_twice, now_is_image, older_images, separate_apart, settled_stays, sound_above,
+    written_stands,
+};
 pub use layer::{Group, Groups, Layer};
 pub use level::{Fid, Level, Owner};
 pub use name::{Kind, Name};
 pub use pattern::Pattern;
-
-/// A stop leaves of a settled file the file itself.
-pub fn settled_stays()
-    ensures { OnlyImage }
-{}

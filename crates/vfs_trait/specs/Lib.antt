@@ -1,2 +1,4 @@
+pub mod Log
 pub mod State
 pub mod Calls
+pub mod Free

@@ -1,0 +1,40 @@
+-- What follows from the definitions, for all callers.
+use Rattle.std.specs.Prelude.{◌≡◌, ℕ, ◌+◌, ◌<◌, Bool, false, List, ◌∷◌, length, IsTrue, slice_get}
+use Rattle.vfs_model.specs.File.{Found, FileState, IsOrderly, IsImage, IsSettled, SameFound}
+use Rattle.vfs_model.specs.Effect.{NoLooser, Wrote, Synced, NameSynced}
+use Rattle.vfs_model.specs.Store.{Store, Separate, Apart}
+use Rattle.vfs_model.specs.Sound.{Sound, OwnStep}
+use Rattle.vfs_model.specs.declared.layer.Layer.{Layer}
+
+-- what stands now may be left by a stop
+abbrev pub NowIsImage : Type 0
+NowIsImage = (s : FileState) → IsOrderly s → IsImage s s.now
+
+-- every image of what is no looser is an image of what was
+abbrev pub OlderImages : Type 0
+OlderImages = (old new : FileState) (i : Found) → NoLooser old new → IsImage new i → IsImage old i
+
+-- a settled file has itself as its only image
+abbrev pub OnlyImage : Type 0
+OnlyImage = (s : FileState) (i : Found) → IsSettled s → IsImage s i → (i.there ≡ s.now.there) × (IsTrue i.there → SameFound s.now i)
+
+-- after a sync and a sync of names nothing of the file is unsettled
+abbrev pub BothSettle : Type 0
+BothSettle = (old mid new : FileState) → old.wild ≡ false → IsOrderly new → Synced old mid → NameSynced mid new → IsSettled new
+
+-- what is written and then synced stands in every image that has the file
+abbrev pub WrittenStands : Type 0
+WrittenStands = (delicate : Bool) (old mid new : FileState) (off : ℕ) (bytes : List ℕ) (i : Found) → Wrote delicate old mid off bytes → Synced mid new → new.wild ≡ false →
+    IsImage new i → IsTrue i.there → (place : ℕ) → place < length bytes → slice_get i.bytes (off + place) ≡ slice_get bytes place
+
+-- a layer's own step and the soundness of the layer beneath give that of the layer
+abbrev pub SoundAbove : Type 0
+SoundAbove = (layer : Layer) (layers : List Layer) (base below above : Store) → OwnStep layer below above → Sound layers base below → Sound (layer ∷ layers) base above
+
+-- names that are separate are apart under any layers, both ways
+abbrev pub SeparateApart : Type 0
+SeparateApart = (layers : List Layer) (name other : List ℕ) → Separate name other → (Apart layers name other) × (Apart layers other name)
+
+-- no looser, twice
+abbrev pub LooserTwice : Type 0
+LooserTwice = (a b c : FileState) → NoLooser a b → NoLooser b c → NoLooser a c

@@ -1,0 +1,225 @@
+-- One write of a database, followed down the layers of a stack: what each is asked, and the first that is full.
+-- After the header comments of SQLite's test_quota.c, test_multiplex.c and appendvfs.c.
+use Rattle.std.specs.Prelude.{◌≡◌, ℕ, zero, suc, ◌+◌, ◌-◌, ◌*◌, ◌/◌, min, max, Bool, true, false, ◌&&◌, ◌||◌, not, nat_eq, nat_le, nat_lt, if◌then◌else◌, List, [], ◌∷◌, ◌++◌, length, Option, Some, None}
+use Rattle.std.specs.Char.{is_ascii_digit}
+use Rattle.std.specs.List.{list_all, starts_with}
+use Rattle.vfs_model.specs.File.{Found}
+use Rattle.vfs_model.specs.Store.{Files}
+use Rattle.vfs_model.specs.Name.{kind_of}
+use Rattle.vfs_model.specs.Mark.{mark_size, Placed, Ordinary, Behind, Fresh, placed}
+use Rattle.vfs_model.specs.Glob.{matches}
+use Rattle.vfs_model.specs.View.{through, chunk_name, most_chunks}
+use Rattle.vfs_model.specs.declared.layer.Group.{Group}
+use Rattle.vfs_model.specs.declared.layer.Layer.{Layer}
+use Rattle.vfs_model.specs.declared.layer.Layer.TheVariants.{Trace, Cksum, Append, Mux, Quota}
+
+-- an open database file at one layer: its name there, how long the layer shows it, and, at an append layer, where it
+-- stands in its file
+pub record OpenFile : Type 0 where
+  pub name : List ℕ
+  pub len : ℕ
+  pub place : Placed
+
+-- those of a layer, and those of each layer, the top one first
+abbrev pub OpenFiles : Type 0
+OpenFiles = List OpenFile
+
+abbrev pub Lengths : Type 0
+Lengths = List OpenFiles
+
+abbrev pub same_name : List ℕ → List ℕ → Bool
+same_name a b = nat_eq (length a) (length b) && starts_with nat_eq a b
+
+-- the length of a file, 0 where it is not open
+abbrev pub len_at : List ℕ → OpenFiles → ℕ
+len_at name [] = 0
+len_at name (file ∷ more) = if same_name file.name name then file.len else len_at name more
+
+abbrev pub place_at : List ℕ → OpenFiles → Placed
+place_at name [] = Ordinary
+place_at name (file ∷ more) = if same_name file.name name then file.place else place_at name more
+
+-- a file with an end: it is open from now on, and not shorter than this
+abbrev pub reached : List ℕ → ℕ → OpenFiles → OpenFiles
+reached name end [] = record { name = name; len = end; place = Ordinary } ∷ []
+reached name end (file ∷ more) =
+    if same_name file.name name then record file { len = max file.len end } ∷ more else file ∷ reached name end more
+
+-- the place in its file is settled by the first write
+abbrev pub settled : Placed → Placed
+settled Ordinary = Ordinary
+settled (Behind start) = Behind start
+settled (Fresh start) = Behind start
+
+abbrev pub settled_at : List ℕ → OpenFiles → OpenFiles
+settled_at name [] = []
+settled_at name (file ∷ more) = if same_name file.name name then record file { place = settled file.place } ∷ more else file ∷ settled_at name more
+
+-- the group of a file: the first whose pattern matches its name, by its number from 0
+abbrev pub group_from : ℕ → List Group → List ℕ → Option ℕ
+group_from number [] name = None
+group_from number (group ∷ more) name = if matches group.glob name then Some number else group_from (suc number) more name
+
+abbrev pub group_of : List Group → List ℕ → Option ℕ
+group_of groups name = group_from 0 groups name
+
+abbrev pub is_number : ℕ → Option ℕ → Bool
+is_number number None = false
+is_number number (Some other) = nat_eq number other
+
+-- the greatest total that is told
+abbrev pub greatest_total : ℕ
+greatest_total = 18446744073709551615
+
+-- the lengths of the open files of a group together
+abbrev pub sum_of_group : List Group → ℕ → OpenFiles → ℕ
+sum_of_group groups number [] = 0
+sum_of_group groups number (file ∷ more) = (if is_number number (group_of groups file.name) then file.len else 0) + sum_of_group groups number more
+
+abbrev pub total_of : List Group → ℕ → OpenFiles → ℕ
+total_of groups number files = min (sum_of_group groups number files) greatest_total
+
+-- the limit of a group, 0 for none
+abbrev pub limit_at : List ℕ → ℕ → ℕ
+limit_at [] number = 0
+limit_at (limit ∷ more) zero = limit
+limit_at (limit ∷ more) (suc number) = limit_at more number
+
+-- how a write passes: with these lengths then, or it is refused as full, with the total and the limit
+pub data Passing : Type 0 where
+  Passes : Lengths → Passing
+  IsFull : ℕ → ℕ → Passing
+
+-- below a layer a write passed with these lengths: with those of the layer on top
+abbrev pub on_top : OpenFiles → Passing → Passing
+on_top files (Passes lengths) = Passes (files ∷ lengths)
+on_top files (IsFull total limit) = IsFull total limit
+
+-- a group refuses a write that would make its file longer, so that the total passes the limit
+abbrev pub quota_says : List Group → List ℕ → OpenFiles → List ℕ → ℕ → Option ℕ → Option (ℕ × ℕ)
+quota_says groups limits files name end None = None
+quota_says groups limits files name end (Some number) =
+    if nat_lt (len_at name files) end && (not (nat_eq (limit_at limits number) 0) && nat_lt (limit_at limits number) (total_of groups number (reached name end files)))
+    then Some (total_of groups number (reached name end files), limit_at limits number) else None
+
+abbrev pub or_full : Option (ℕ × ℕ) → Passing → Passing
+or_full None passing = passing
+or_full (Some full) passing = IsFull full.0 full.1
+
+-- the most bytes of a whole file that grows below an append layer
+abbrev pub append_limit : ℕ
+append_limit = 1000013824
+
+-- how long the file is that an append layer keeps a database in, by the layer below, or by the database where that is last
+abbrev pub whole_len : List ℕ → OpenFiles → Lengths → ℕ
+whole_len name files [] = len_at name files
+whole_len name files (below ∷ more) = len_at name below
+
+-- a write of a range below an append layer: where it begins, and where it ends. One that grows begins at the end of the
+-- file where the database is to begin behind that, and ends with the mark
+abbrev pub shifted : Placed → ℕ → ℕ → ℕ → ℕ → ℕ × ℕ
+shifted Ordinary whole len off end = (off, end)
+shifted (Behind start) whole len off end = (start + off, if nat_lt len end then start + end + mark_size else start + end)
+shifted (Fresh start) whole len off end = (min whole (start + off), start + end + mark_size)
+
+abbrev pub append_says : Placed → ℕ → ℕ → ℕ × ℕ → Option (ℕ × ℕ)
+append_says Ordinary len end range = None
+append_says (Behind start) len end range = if nat_lt len end && nat_lt append_limit range.1 then Some (range.1, append_limit) else None
+append_says (Fresh start) len end range = if nat_lt len end && nat_lt append_limit range.1 then Some (range.1, append_limit) else None
+
+-- the parts of a range in so many chunks at most, one write a chunk in rising order, each with the lengths before it
+-- the writes that follow one, by the lengths that it left
+abbrev pub then_pass : Passing → (Lengths → Passing) → Passing
+then_pass (Passes after) more = more after
+then_pass (IsFull total limit) more = IsFull total limit
+
+pub by_chunks : (Lengths → List ℕ → ℕ → ℕ → Passing) → ℕ → ℕ → List ℕ → ℕ → ℕ → ℕ → Lengths → Passing
+by_chunks below zero chunk name number off end lengths = Passes lengths
+by_chunks below (suc left) chunk name number off end lengths =
+    if nat_le end (chunk * number) then Passes lengths
+    else (if nat_le (chunk * (number + 1)) off then by_chunks below left chunk name (suc number) off end lengths
+    else then_pass (below lengths (chunk_name name number) (max off (chunk * number) - chunk * number) (min end (chunk * (number + 1)) - chunk * number))
+    (λ after. by_chunks below left chunk name (suc number) off end after))
+
+-- a write of a database from a place up to an end, by the limits of each quota layer's groups and the lengths at each layer
+pub pass : List Layer → List (List ℕ) → Lengths → List ℕ → ℕ → ℕ → Passing
+pass [] limits lengths name off end = Passes lengths
+pass (Trace ∷ below) limits [] name off end = Passes []
+pass (Cksum page ∷ below) limits [] name off end = Passes []
+pass (Append ∷ below) limits [] name off end = Passes []
+pass (Mux chunk ∷ below) limits [] name off end = Passes []
+pass (Quota groups ∷ below) limits [] name off end = Passes []
+pass (Trace ∷ below) limits (files ∷ lengths) name off end = on_top (reached name end files) (pass below limits lengths name off end)
+pass (Cksum page ∷ below) limits (files ∷ lengths) name off end = on_top (reached name end files) (pass below limits lengths name off end)
+pass (Append ∷ below) limits (files ∷ lengths) name off end =
+    or_full (append_says (place_at name files) (len_at name files) end (range (place_at name files)))
+    (on_top (reached name end (grown (nat_lt (len_at name files) end))) (pass below limits lengths name (range (place_at name files)).0 (range (place_at name files)).1)) where
+  range : Placed → ℕ × ℕ
+  range place = shifted place (whole_len name files lengths) (len_at name files) off end
+  grown : Bool → OpenFiles
+  grown true = settled_at name files
+  grown false = files
+pass (Mux chunk ∷ below) limits (files ∷ lengths) name off end =
+    on_top (reached name end files) (by_chunks (λ after chunk_of from to. pass below limits after chunk_of from to) most_chunks chunk name 0 off end lengths)
+pass (Quota groups ∷ below) [] (files ∷ lengths) name off end = on_top (reached name end files) (pass below [] lengths name off end)
+pass (Quota groups ∷ below) (own ∷ limits) (files ∷ lengths) name off end =
+    or_full (quota_says groups own files name end (group_of groups name)) (on_top (reached name end files) (pass below limits lengths name off end))
+
+-- the lengths that views give: of a name at each layer, and of its chunks below a multiplexor
+
+abbrev pub place_in : Layer → Found → Placed
+place_in Trace f = Ordinary
+place_in (Cksum page) f = Ordinary
+place_in Append f = placed f.bytes
+place_in (Mux chunk) f = Ordinary
+place_in (Quota groups) f = Ordinary
+
+-- the names of the chunks of a file that are there, up to the end of the file
+pub chunk_names : ℕ → ℕ → Files → List ℕ → ℕ → List (List ℕ)
+chunk_names zero chunk files name number = []
+chunk_names (suc left) chunk files name number =
+    if (files (chunk_name name number)).there then chunk_name name number ∷ (if nat_lt (length (files (chunk_name name number)).bytes) chunk then [] else chunk_names left chunk files name (suc number)) else []
+
+-- the names below a layer of what it shows by these names
+abbrev pub names_below : Layer → Files → List (List ℕ) → List (List ℕ)
+names_below (Mux chunk) files [] = []
+names_below (Mux chunk) files (name ∷ more) = chunk_names most_chunks chunk files name 0 ++ names_below (Mux chunk) files more
+names_below Trace files names = names
+names_below (Cksum page) files names = names
+names_below Append files names = names
+names_below (Quota groups) files names = names
+
+abbrev pub open_at : Layer → Files → Files → List (List ℕ) → OpenFiles
+open_at layer shown below [] = []
+open_at layer shown below (name ∷ more) = record { name = name; len = length (shown name).bytes; place = place_in layer (below name) } ∷ open_at layer shown below more
+
+abbrev pub lengths_shown : List Layer → Files → List (List ℕ) → Lengths
+lengths_shown [] files names = []
+lengths_shown (layer ∷ below) files names =
+    open_at layer (through (layer ∷ below) files) (through below files) names ∷ lengths_shown below files (names_below layer (through below files) names)
+
+-- those of one file among the lengths at each layer: of its own name, and below a multiplexor of this followed by digits
+abbrev pub is_chunk_of : List ℕ → List ℕ → Bool
+is_chunk_of name [] = list_all is_ascii_digit []
+is_chunk_of name other = starts_with nat_eq other name && list_all is_ascii_digit (behind (length name) other) where
+  behind : ℕ → List ℕ → List ℕ
+  behind zero rest = rest
+  behind (suc n) [] = []
+  behind (suc n) (b ∷ rest) = behind n rest
+
+abbrev pub only : (List ℕ → Bool) → OpenFiles → OpenFiles
+only test [] = []
+only test (file ∷ more) = if test file.name then file ∷ only test more else only test more
+
+abbrev pub each_only : (List ℕ → Bool) → Lengths → Lengths
+each_only test [] = []
+each_only test (files ∷ more) = only test files ∷ each_only test more
+
+abbrev pub of_file : List Layer → List ℕ → Lengths → Lengths
+of_file [] name lengths = []
+of_file (layer ∷ below) name [] = []
+of_file (Mux chunk ∷ below) name (files ∷ lengths) = only (same_name name) files ∷ each_only (is_chunk_of name) lengths
+of_file (Trace ∷ below) name (files ∷ lengths) = only (same_name name) files ∷ of_file below name lengths
+of_file (Cksum page ∷ below) name (files ∷ lengths) = only (same_name name) files ∷ of_file below name lengths
+of_file (Append ∷ below) name (files ∷ lengths) = only (same_name name) files ∷ of_file below name lengths
+of_file (Quota groups ∷ below) name (files ∷ lengths) = only (same_name name) files ∷ of_file below name lengths

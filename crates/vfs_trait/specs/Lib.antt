@@ -1,4 +1,5 @@
 pub mod Log
 pub mod State
 pub mod Calls
+pub mod Follows
 pub mod Free

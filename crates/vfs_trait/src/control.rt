@@ -1,7 +1,6 @@
 //! What is asked of the layers of a stack by themselves, and what they answer.
 
 use byte_base::ByteLists;
-
 use std::alloc::AllocError;
 use std::marker::Model;
 

@@ -8,6 +8,7 @@ ghost use Rattle.vfs_trait.specs.State.{StackState, file_at, name_at, IsOpen, Is
 ghost use Rattle.vfs_trait.specs.Log.{Logs, outcome_of, yes_or_no};
 ghost use Rattle.vfs_trait.specs.declared.log.Call.TheVariants.{Open, Exists, Read, Write, Cut, Sync, Length, Delete, SyncNames, Lock, Unlock};
 ghost use Rattle.vfs_trait.specs.declared.log.Outcome.TheVariants.{Ok as Done, Fid as Number, Bytes as Count, Len};
+ghost use Rattle.vfs_trait.specs.Follows.{Follows, OpenUnsettles, WriteUnsettles, CutUnsettles, SyncUnsettles, DeleteUnsettles, NamesUnsettle};
 ghost use Rattle.vfs_trait.specs.Free.{SeparateIsFree};
 ghost use Rattle.vfs_trait.specs.Calls.{Caused, ReadCaused, WriteCaused, MayWrite, MayCutTo, checked, Numbers, CountsBeside, OpenLeaves, Closes, FillsUp, Reads, AllZero, WriteLeaves, WriteCounts, CutLeaves, CutCounts, SyncLeaves, SyncTames, DeleteLeaves, Leaves, NamesLeft, FilesLeft, LocksAt, LockRule, IsReserved, Answers, falls_to};
 
@@ -35,6 +36,7 @@ pub trait Vfs: Drop {
         ensures levels { LevelsStay (state self.old) (state self.new) }
         ensures beside { CountsBeside (state self.old) (state self.new) name.now }
         ensures leaves { Leaves (state self.old) (state self.new) name.now (λ old new. OpenLeaves old new result) }
+        ensures follows { Follows (state self.old) (state self.new) result (OpenUnsettles (state self.old) (state self.new) name.now) }
         ensures logs { Logs (state self.old).layers (state self.old).log (state self.new).log (Open name.now kind) (outcome_of Number result) }
         ensures stands { Stands (state self.new) };
 
@@ -45,6 +47,7 @@ pub trait Vfs: Drop {
         ensures rests { Rests (state self.old) (state self.new) }
         ensures is_there { IsTrue (state self.old).tells → IfOk result (λ there. there ≡ ((state self.old).files name.now).now.there) }
         ensures files { FilesLeft (state self.old) (state self.new) }
+        ensures follows { Follows (state self.old) (state self.new) result (λ _. Unit {0}) }
         ensures logs { Logs (state self.old).layers (state self.old).log (state self.new).log (Exists name.now) (outcome_of yes_or_no result) }
         ensures stands { Stands (state self.new) };
 
@@ -74,6 +77,7 @@ pub trait Vfs: Drop {
         ensures reads { IsTrue (state self.old).tells → IfOk result (Reads (file_at (state self.old) fid.0).now.bytes off buf.new) }
         ensures refused { OnErr result (AllZero buf.new) }
         ensures files { FilesLeft (state self.old) (state self.new) }
+        ensures follows { Follows (state self.old) (state self.new) result (λ _. Unit {0}) }
         ensures logs { Logs (state self.old).layers (state self.old).log (state self.new).log (Read fid off (length buf.old)) (outcome_of Count result) }
         ensures stands { Stands (state self.new) };
 
@@ -93,6 +97,7 @@ pub trait Vfs: Drop {
         ensures rests { RestsBut (state self.old) (state self.new) fid.0 }
         ensures counts { WriteCounts (state self.old) (state self.new) fid.0 (name_at (state self.old) fid.0) off (length bytes.now) result }
         ensures leaves { Leaves (state self.old) (state self.new) (name_at (state self.old) fid.0) (λ old new. WriteLeaves ((state self.old).delicate (name_at (state self.old) fid.0)) old new off bytes.now result) }
+        ensures follows { Follows (state self.old) (state self.new) result (WriteUnsettles (state self.old) (state self.new) fid.0 off (length bytes.now)) }
         ensures logs { Logs (state self.old).layers (state self.old).log (state self.new).log (Write fid off (length bytes.now)) (outcome_of (λ _. Done) result) }
         ensures stands { Stands (state self.new) };
 
@@ -110,6 +115,7 @@ pub trait Vfs: Drop {
         ensures rests { RestsBut (state self.old) (state self.new) fid.0 }
         ensures counts { CutCounts (state self.old) (state self.new) fid.0 result }
         ensures leaves { Leaves (state self.old) (state self.new) (name_at (state self.old) fid.0) (λ old new. CutLeaves old new len result) }
+        ensures follows { Follows (state self.old) (state self.new) result (CutUnsettles (state self.old) (state self.new) fid.0 len) }
         ensures logs { Logs (state self.old).layers (state self.old).log (state self.new).log (Cut fid len) (outcome_of (λ _. Done) result) }
         ensures stands { Stands (state self.new) };
 
@@ -123,6 +129,7 @@ pub trait Vfs: Drop {
         ensures rests { Rests (state self.old) (state self.new) }
         ensures leaves { Leaves (state self.old) (state self.new) (name_at (state self.old) fid.0) (λ old new. SyncLeaves old new result) }
         ensures tames { SyncTames (state self.old) (state self.new) fid.0 result }
+        ensures follows { Follows (state self.old) (state self.new) result (SyncUnsettles (state self.old) (state self.new) fid.0) }
         ensures logs { Logs (state self.old).layers (state self.old).log (state self.new).log (Sync fid) (outcome_of (λ _. Done) result) }
         ensures stands { Stands (state self.new) };
 
@@ -134,6 +141,7 @@ pub trait Vfs: Drop {
         ensures rests { Rests (state self.old) (state self.new) }
         ensures length_of { IsTrue (state self.old).tells → IfOk result (λ len. len ≡ length (file_at (state self.old) fid.0).now.bytes) }
         ensures leaves { Leaves (state self.old) (state self.new) (name_at (state self.old) fid.0) NoLooser }
+        ensures follows { Follows (state self.old) (state self.new) result (λ _. Unit {0}) }
         ensures logs { Logs (state self.old).layers (state self.old).log (state self.new).log (Length fid) (outcome_of Len result) }
         ensures stands { Stands (state self.new) };
 
@@ -147,6 +155,7 @@ pub trait Vfs: Drop {
         ensures cause { Caused (state self.old) (state self.new) result }
         ensures rests { Rests (state self.old) (state self.new) }
         ensures leaves { Leaves (state self.old) (state self.new) name.now (λ old new. DeleteLeaves old new result) }
+        ensures follows { Follows (state self.old) (state self.new) result (DeleteUnsettles (state self.old) (state self.new) name.now) }
         ensures logs { Logs (state self.old).layers (state self.old).log (state self.new).log (Delete name.now kind) (outcome_of (λ _. Done) result) }
         ensures stands { Stands (state self.new) };
 
@@ -158,6 +167,7 @@ pub trait Vfs: Drop {
         ensures cause { Caused (state self.old) (state self.new) result }
         ensures rests { Rests (state self.old) (state self.new) }
         ensures names { NamesLeft (state self.old) (state self.new) result }
+        ensures follows { Follows (state self.old) (state self.new) result (NamesUnsettle (state self.old) (state self.new)) }
         ensures logs { Logs (state self.old).layers (state self.old).log (state self.new).log SyncNames (outcome_of (λ _. Done) result) }
         ensures stands { Stands (state self.new) };
 

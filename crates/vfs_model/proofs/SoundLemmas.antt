@@ -1,12 +1,12 @@
 -- Views and soundness.
-use Rattle.std.proofs.Common.{◌≡◌, ◌≢◌, ℕ, zero, suc, ◌+◌, ◌≤◌, ◌<◌, List, [], ◌∷◌, refl, sym, ap, ◌∙◌, IsTrue, if◌then◌else◌, arith}
+use Rattle.std.proofs.Common.{◌≡◌, ◌≢◌, ℕ, zero, suc, ◌+◌, ◌<◌, List, [], ◌∷◌, refl, sym, ap, ◌∙◌, IsTrue, if◌then◌else◌, arith}
 use Rattle.std.proofs.Common.{rules}
 use Rattle.std.specs.Char.{is_ascii_digit}
 use Rattle.std.specs.List.{list_all}
 use Rattle.std.proofs.lemmas.List.{append-nil}
 use Rattle.vfs_model.specs.Store.{Store, Files, present, Separate, Apart}
 use Rattle.vfs_model.specs.Name.{kind_of}
-use Rattle.vfs_model.specs.View.{view, through, plain, of_main, summed, appended, chunk_name, chunk_then, bytes_from, most_chunks, in_chunks, ViewedFrom}
+use Rattle.vfs_model.specs.View.{view, through, plain, of_main, summed, appended, chunk_name, chunk_then, bytes_from, most_chunks, ViewedFrom}
 use Rattle.vfs_model.specs.Sound.{Sound, OwnStep}
 use Rattle.vfs_model.specs.declared.layer.Layer.{Layer}
 use Rattle.vfs_model.specs.declared.layer.Layer.TheVariants.{Trace, Cksum, Append, Mux, Quota}
@@ -34,7 +34,7 @@ view_local Append f g name same = ap (λ h. of_main (kind_of name) (appended h) 
 view_local (Mux chunk) f g name same =
     let first : f name ≡ g name = same name (record { number = 0; few = first_one; named = refl }) in
     let rest : bytes_from most_chunks chunk f name 0 ≡ bytes_from most_chunks chunk g name 0 =
-      bytes_local most_chunks chunk f g name 0 (λ i less. same (chunk_name name i) (record { number = i; few = omega (arith, less); named = refl })) in
+    bytes_local most_chunks chunk f g name 0 (λ i less. same (chunk_name name i) (record { number = i; few = omega (arith, less); named = refl })) in
     ap (λ h. plain h.there (bytes_from most_chunks chunk f name 0)) first ∙ ap (λ bytes. plain (g name).there bytes) rest
 view_local (Quota groups) f g name same = same name refl
 

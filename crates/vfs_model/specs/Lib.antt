@@ -2,6 +2,7 @@ pub mod Places
 pub mod Padded
 pub mod Name
 pub mod NameFields
+pub mod Pattern
 pub mod PatternFields
 pub mod File
 pub mod Effect

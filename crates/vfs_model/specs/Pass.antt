@@ -1,11 +1,10 @@
 -- One write of a database, followed down the layers of a stack: what each is asked, and the first that is full.
 -- After the header comments of SQLite's test_quota.c, test_multiplex.c and appendvfs.c.
-use Rattle.std.specs.Prelude.{◌≡◌, ℕ, zero, suc, ◌+◌, ◌-◌, ◌*◌, ◌/◌, min, max, Bool, true, false, ◌&&◌, ◌||◌, not, nat_eq, nat_le, nat_lt, if◌then◌else◌, List, [], ◌∷◌, ◌++◌, length, Option, Some, None}
+use Rattle.std.specs.Prelude.{ℕ, zero, suc, ◌+◌, ◌-◌, ◌*◌, min, max, Bool, true, false, ◌&&◌, not, nat_eq, nat_le, nat_lt, if◌then◌else◌, List, [], ◌∷◌, ◌++◌, length, Option, Some, None}
 use Rattle.std.specs.Char.{is_ascii_digit}
 use Rattle.std.specs.List.{list_all, starts_with}
 use Rattle.vfs_model.specs.File.{Found}
 use Rattle.vfs_model.specs.Store.{Files}
-use Rattle.vfs_model.specs.Name.{kind_of}
 use Rattle.vfs_model.specs.Mark.{mark_size, Placed, Ordinary, Behind, Fresh, placed}
 use Rattle.vfs_model.specs.Glob.{matches}
 use Rattle.vfs_model.specs.View.{through, chunk_name, most_chunks}
@@ -154,11 +153,12 @@ pass (Cksum page ∷ below) limits (files ∷ lengths) name off end = on_top (re
 pass (Append ∷ below) limits (files ∷ lengths) name off end =
     or_full (append_says (place_at name files) (len_at name files) end (range (place_at name files)))
     (on_top (reached name end (grown (nat_lt (len_at name files) end))) (pass below limits lengths name (range (place_at name files)).0 (range (place_at name files)).1)) where
-  range : Placed → ℕ × ℕ
-  range place = shifted place (whole_len name files lengths) (len_at name files) off end
-  grown : Bool → OpenFiles
-  grown true = settled_at name files
-  grown false = files
+      range : Placed → ℕ × ℕ
+      range place = shifted place (whole_len name files lengths) (len_at name files) off end
+
+      grown : Bool → OpenFiles
+      grown true = settled_at name files
+      grown false = files
 pass (Mux chunk ∷ below) limits (files ∷ lengths) name off end =
     on_top (reached name end files) (by_chunks (λ after chunk_of from to. pass below limits after chunk_of from to) most_chunks chunk name 0 off end lengths)
 pass (Quota groups ∷ below) [] (files ∷ lengths) name off end = on_top (reached name end files) (pass below [] lengths name off end)

@@ -1,6 +1,6 @@
 -- The checksum of a page, and pages that fail it.
 -- After sqlite.org, "The Checksum VFS Shim", section 2, "Computing The Checksum" (here always in the byte order given).
-use Rattle.std.specs.Prelude.{ℕ, suc, ◌+◌, ◌-◌, ◌*◌, ◌/◌, ◌%◌, Bool, not, ◌||◌, ◌&&◌, nat_eq, nat_lt, nat_le, if◌then◌else◌, List, [], ◌∷◌, ◌++◌, length, take, drop, replicate}
+use Rattle.std.specs.Prelude.{ℕ, suc, ◌+◌, ◌-◌, ◌*◌, ◌%◌, Bool, not, ◌||◌, ◌&&◌, nat_eq, nat_lt, nat_le, if◌then◌else◌, List, [], ◌∷◌, ◌++◌, length, take, drop, replicate}
 
 -- four bytes as a number, the least one first
 abbrev pub little : ℕ → ℕ → ℕ → ℕ → ℕ

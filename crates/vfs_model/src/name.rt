@@ -2,9 +2,9 @@
 
 ghost use Rattle.vfs_model.specs.declared.name.TheConstants.{NAME_LEN};
 ghost use Rattle.std.specs.Prelude.{◌≡◌, ℕ, ◌+◌, ◌≤◌, ◌↔◌, List, ◌++◌, length, drop, IsTrue, IsSome, IfSome};
-ghost use Rattle.vfs_model.specs.Padded.{padded};
 ghost use Rattle.vfs_model.specs.Name.{IsName, kind_of, stem, has_part, is_name_byte};
 
+use crate::text::lay;
 use std::marker::Model;
 
 /// The most bytes that a name has.
@@ -54,8 +54,10 @@ impl Name {
         if bytes.is_empty() || bytes.len() > NAME_LEN || !bytes.iter().all(|b| is_name_byte(*b)) {
             return None;
         }
+        let mut kept = [0; NAME_LEN];
+        lay(&mut kept, bytes, &[]);
         Some(Name {
-            bytes: padded(bytes, &[]),
+            bytes: kept,
             len: bytes.len() as u8,
         })
     }
@@ -77,7 +79,8 @@ impl Name {
         if tail.len() > NAME_LEN - len {
             return None;
         }
-        let joined = padded(self.bytes(), tail);
+        let mut joined = [0; NAME_LEN];
+        lay(&mut joined, self.bytes(), tail);
         Name::new(&joined[..len + tail.len()])
     }
 
@@ -101,25 +104,6 @@ fn is_name_byte(b: u8) -> bool
     ensures { result ≡ is_name_byte b }
 {
     b.is_ascii_alphanumeric() || b == b'.' || b == b'_' || b == b'-'
-}
-
-/// The two texts, one behind the other, and zeros behind them.
-fn padded(front: &[u8], tail: &[u8]) -> [u8; NAME_LEN]
-    requires { length front.now + length tail.now ≤ NAME_LEN }
-    ensures { result ≡ padded NAME_LEN (front.now ++ tail.now) }
-{
-    let mut bytes = [0; NAME_LEN];
-    overlay(&mut bytes, front);
-    overlay(&mut bytes[front.len()..], tail);
-    bytes
-}
-
-/// Puts the text in front of what stands in the space behind it.
-fn overlay(space: &mut [u8], text: &[u8])
-    requires { length text.now ≤ length space.old }
-    ensures { space.new ≡ text.now ++ drop (length text.now) space.old }
-{
-    space[..text.len()].copy_from_slice(text);
 }
 
 /// The name without the decimal digits at its end.

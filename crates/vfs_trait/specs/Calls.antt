@@ -1,5 +1,5 @@
 -- What each call of a stack answers and leaves, by cases on its answer.
-use Rattle.std.specs.Prelude.{◌≡◌, ◌≢◌, ◌⊎◌, ◌↔◌, ℕ, zero, suc, ◌+◌, ◌-◌, ◌*◌, ◌%◌, ◌≤◌, ◌<◌, Bool, true, false, List, [], ◌∷◌, ◌++◌, length, map, drop, replicate, min, Option, Some, None, IsSome, IsTrue, Result, Ok, Err, slice_get}
+use Rattle.std.specs.Prelude.{◌≡◌, ◌≢◌, ◌⊎◌, ℕ, zero, suc, ◌+◌, ◌-◌, ◌*◌, ◌%◌, ◌≤◌, ◌<◌, Bool, true, false, List, [], ◌∷◌, ◌++◌, length, map, drop, replicate, min, Option, Some, None, IsSome, IsTrue, Result, Ok, Err, slice_get}
 use Rattle.byte_base.specs.Count.{Rose}
 use Rattle.byte_base.specs.Numbers.{number_at}
 use Rattle.byteorder.specs.Endian.{little_bytes}
@@ -11,7 +11,7 @@ use Rattle.vfs_model.specs.Mark.{has_header}
 use Rattle.vfs_model.specs.Sums.{fails, found_sums, page_at, kept_size}
 use Rattle.vfs_model.specs.View.{through}
 use Rattle.vfs_model.specs.Pass.{OpenFile, OpenFiles, Lengths, Passing, Passes, IsFull, pass, of_file, total_of}
-use Rattle.vfs_model.specs.Lock.{IsOwner, level_at, rank, Grants, Refuses, Lowers}
+use Rattle.vfs_model.specs.Lock.{IsOwner, level_at, rank, Grants, Refuses}
 use Rattle.vfs_model.specs.declared.name.Kind.{Kind}
 use Rattle.vfs_model.specs.declared.name.Kind.TheVariants.{Main, Journal, Super}
 use Rattle.vfs_model.specs.declared.level.Fid.{Fid}

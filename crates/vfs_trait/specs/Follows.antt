@@ -2,7 +2,7 @@
 -- every stack keeps; these bounds from below, which a stack without layers keeps too, refuse a device that never loses
 -- anything.
 -- After sqlite.org, "Atomic Commit In SQLite", section 2.0, "Hardware Assumptions".
-use Rattle.std.specs.Prelude.{◌≡◌, ℕ, ◌+◌, ◌≤◌, ◌<◌, true, false, List, [], length, max, min, IsTrue, Result, Ok, Err}
+use Rattle.std.specs.Prelude.{◌≡◌, ℕ, ◌+◌, ◌≤◌, ◌<◌, true, false, List, [], max, min, IsTrue, Result, Ok, Err}
 use Rattle.vfs_model.specs.File.{FileState}
 use Rattle.vfs_model.specs.declared.level.Fid.{Fid}
 use Rattle.vfs_trait.specs.State.{StackState, file_at}

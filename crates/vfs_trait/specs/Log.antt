@@ -1,8 +1,7 @@
 -- The calls that a trace layer keeps, and their text.
-use Rattle.std.specs.Prelude.{◌≡◌, ◌≢◌, ℕ, ◌+◌, ◌-◌, min, Bool, true, false, List, [], ◌∷◌, ◌++◌, length, drop, map, codes, decimal, Result, Ok, Err}
+use Rattle.std.specs.Prelude.{◌≡◌, ℕ, ◌+◌, ◌-◌, min, Bool, true, false, List, [], ◌∷◌, ◌++◌, length, drop, codes, decimal, Result, Ok, Err}
 use Rattle.vfs_model.specs.declared.name.Kind.{Kind}
 use Rattle.vfs_model.specs.declared.name.Kind.TheVariants.{Main, Journal, Super}
-use Rattle.vfs_model.specs.declared.level.Fid.{Fid}
 use Rattle.vfs_model.specs.declared.level.Level.{Level}
 use Rattle.vfs_model.specs.declared.level.Level.TheVariants.{Free, Shared, Reserved, Pending, Exclusive}
 use Rattle.vfs_model.specs.declared.layer.Layer.{Layer}

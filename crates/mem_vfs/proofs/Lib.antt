@@ -1,4 +1,8 @@
 pub mod PlaceLemmas
-pub mod StoreLemmas
 pub mod SpliceLemmas
+pub mod WriteLemmas
+pub mod StoreLemmas
+pub mod PairLemmas
 pub mod GivenLemmas
+pub mod NameLemmas
+pub mod ImageLemmas

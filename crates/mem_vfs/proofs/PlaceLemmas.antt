@@ -1,8 +1,10 @@
-use Rattle.std.proofs.Common.{◌≡◌, ℕ, zero, suc, ◌+◌, ◌<◌, true, false, cond, List, [], ◌∷◌, length, drop, get_or, sym, ap, subst, ◌∙◌, arith, Option, Some, None, IsSome, MatchOption, is_some, slice_get, find, rules}
+use Rattle.std.proofs.Common.{◌≡◌, ℕ, zero, suc, ◌+◌, ◌<◌, true, false, cond, List, [], ◌∷◌, length, drop, get_or, sym, ap, subst, ◌∙◌, arith, Option, Some, None, IsSome, MatchOption, slice_get, find, rules}
 use Rattle.std.specs.Str.{bytes_eq}
 use Rattle.std.proofs.lemmas.List.{at_drop_more}
 use Rattle.mem_vfs.specs.declared.file.File.{File}
-use Rattle.mem_vfs.specs.Memory.{is_named, IsPlace}
+use Rattle.std.specs.Option.{option_map_or}
+use Rattle.vfs_model.specs.File.{absent}
+use Rattle.mem_vfs.specs.Memory.{is_named, IsPlace, IsThere, file_state}
 
 -- the files before the one at this place do not have the name, so its place in the rest leads to its place
 abbrev pub LeadsTo : List File → List ℕ → ℕ → Type 0
@@ -43,11 +45,11 @@ find_on files name at f within here other =
     ∙ ap (λ g. find (is_named name) (g ∷ drop (at + 1) files)) (sym here)
     ∙ ap (λ b. cond b (Some f) (find (is_named name) (drop (at + 1) files))) other
 
--- a file that is found has a place
+-- a file that is there has a place
 pub some_place : (files : List File) (name : List ℕ) (place : Option ℕ) → MatchOption place (find (is_named name) files ≡ None) (IsPlace files name)
-    → is_some (find (is_named name) files) ≡ true → IsSome place
-some_place files name (Some i) h found = search rules
-some_place files name None h found = let e : is_some (find (is_named name) files) ≡ false = ap is_some h in cc
+    → IsThere files name → IsSome place
+some_place files name (Some i) h there = search rules
+some_place files name None h there = let wrong : false ≡ true = sym (ap (λ o. (option_map_or file_state o absent).now.there) h) ∙ there in cc
 
 pub place_found : (files : List File) (name : List ℕ) (place : Option ℕ) (i : ℕ) → MatchOption place (find (is_named name) files ≡ None) (IsPlace files name)
     → place ≡ Some i → IsPlace files name i

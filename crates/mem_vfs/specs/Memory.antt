@@ -1,26 +1,25 @@
--- What a device in memory holds, as the states of files.
-use Rattle.std.specs.Prelude.{◌≡◌, ◌≢◌, ℕ, zero, suc, Bool, true, false, not, ◌==◌, List, [], ◌∷◌, length, take, min, max, Option, Some, None, slice_get, slice_index, option_and_then, find, is_some, IsSome, ◌<◌}
+-- What a device in memory holds, as the states of files by their names.
+use Rattle.std.specs.Prelude.{◌≡◌, ◌≢◌, ℕ, zero, suc, Bool, true, false, List, [], ◌∷◌, length, Option, Some, None, IsSome, IsTrue, slice_get, slice_index_or, find, ◌<◌}
 use Rattle.std.specs.Option.{option_map_or}
 use Rattle.std.specs.Str.{bytes_eq}
 use Rattle.vfs_model.specs.File.{FileState, absent}
-use Rattle.vfs_model.specs.Store.{Store, OthersStay}
+use Rattle.vfs_model.specs.Store.{Store}
+use Rattle.vfs_model.specs.Lock.{all_free}
+use Rattle.vfs_model.specs.declared.level.Level.{Level}
 use Rattle.mem_vfs.specs.declared.file.File.{File}
+use Rattle.mem_vfs.specs.declared.handles.Handle.{Handle}
 
--- two lists differ at a place, where nothing counts as zero
-abbrev pub differs : List ℕ → List ℕ → ℕ → Bool
-differs xs ys place = not (slice_index xs place == slice_index ys place)
+-- whether a place was written since the last sync: marks are kept up to the longest length
+abbrev pub mark_at : List Bool → ℕ → Bool
+mark_at marks place = slice_index_or marks place false
 
--- the bytes of the last sync
-abbrev pub synced_bytes : File → List ℕ
-synced_bytes f = take f.synced_len f.synced.items
-
--- a file in memory: what a stop leaves lies between the last sync and now
+-- a file in memory
 abbrev pub file_state : File → FileState
 file_state f = record {
-  now = record { there = true; bytes = f.present.items; bad = λ _. false };
-  unsynced = differs f.present.items (synced_bytes f);
-  shortest = min (length f.present.items) (length (synced_bytes f));
-  longest = max (length f.present.items) (length (synced_bytes f));
+  now = record { there = f.there; bytes = f.present.items; bad = λ _. false };
+  unsynced = mark_at f.marks.items;
+  shortest = f.shortest;
+  longest = length f.marks.items;
   sure = f.sure;
   wild = false;
 }
@@ -28,7 +27,7 @@ file_state f = record {
 abbrev pub is_named : List ℕ → File → Bool
 is_named name f = bytes_eq f.name name
 
--- the files by their names
+-- the files by their names: of two files of one name the first
 abbrev pub store : List File → Store
 store files name = option_map_or file_state (find (is_named name) files) absent
 
@@ -39,34 +38,47 @@ IsPlace (f ∷ files) name zero = is_named name f ≡ true
 IsPlace (f ∷ files) name (suc i) = (is_named name f ≡ false) × IsPlace files name i
 
 -- a file of the name is there
-abbrev pub has_file : List File → List ℕ → Bool
-has_file files name = is_some (find (is_named name) files)
+abbrev pub IsThere : List File → List ℕ → Type 0
+IsThere files name = IsTrue (store files name).now.there
 
--- files of other names are as they were
-pub record OthersKept (old new : List File) (name : List ℕ) : Type 0 where
-  pub states : OthersStay (store old) (store new) name
-  pub there : (other : List ℕ) → other ≢ name → has_file new other ≡ has_file old other
+-- the name and the levels of a number
+abbrev pub name_in : Option (Option Handle) → Option (List ℕ)
+name_in None = None
+name_in (Some None) = None
+name_in (Some (Some handle)) = Some handle.name
 
--- the same names have files
-pub record SameNames (old new : List File) : Type 0 where
-  pub there : (name : List ℕ) → has_file new name ≡ has_file old name
+abbrev pub levels_in : Option (Option Handle) → List Level
+levels_in None = all_free
+levels_in (Some None) = all_free
+levels_in (Some (Some handle)) = handle.locks
 
 -- the name of an open file
-abbrev pub open_name : List (Option (List ℕ)) → ℕ → Option (List ℕ)
-open_name handles fid = option_and_then (λ handle. handle) (slice_get handles fid)
+abbrev pub open_name : List (Option Handle) → ℕ → Option (List ℕ)
+open_name handles fid = name_in (slice_get handles fid)
+
+-- the levels of its owners
+abbrev pub open_levels : List (Option Handle) → ℕ → List Level
+open_levels handles fid = levels_in (slice_get handles fid)
 
 -- each open file is there
-abbrev pub HandlesFound : List (Option (List ℕ)) → List File → Type 0
-HandlesFound handles files = (fid : ℕ) (name : List ℕ) → open_name handles fid ≡ Some name → has_file files name ≡ true
+abbrev pub HandlesFound : List (Option Handle) → List File → Type 0
+HandlesFound handles files = (fid : ℕ) (name : List ℕ) → open_name handles fid ≡ Some name → IsThere files name
 
--- the number was not in use, is the least such, and has the name from now on
-pub record TakesHandle (old new : List (Option (List ℕ))) (name : List ℕ) (fid : ℕ) : Type 0 where
+-- the number was not in use, is the least such, and has the name and no lock from now on
+pub record TakesHandle (old new : List (Option Handle)) (name : List ℕ) (fid : ℕ) : Type 0 where
   pub unused : open_name old fid ≡ None
   pub least : (other : ℕ) → other < fid → IsSome (open_name old other)
   pub named : open_name new fid ≡ Some name
   pub others : (other : ℕ) → other ≢ fid → open_name new other ≡ open_name old other
+  pub levels : (other : ℕ) → open_levels new other ≡ open_levels old other
 
 -- the number is not in use any more
-pub record DropsHandle (old new : List (Option (List ℕ))) (fid : ℕ) : Type 0 where
+pub record DropsHandle (old new : List (Option Handle)) (fid : ℕ) : Type 0 where
   pub closed : open_name new fid ≡ None
   pub others : (other : ℕ) → other ≢ fid → open_name new other ≡ open_name old other
+  pub levels : (other : ℕ) → other ≢ fid → open_levels new other ≡ open_levels old other
+
+-- the same files are open, and the levels stay but at one
+pub record LocksHandle (old new : List (Option Handle)) (fid : ℕ) : Type 0 where
+  pub names : (other : ℕ) → open_name new other ≡ open_name old other
+  pub levels : (other : ℕ) → other ≢ fid → open_levels new other ≡ open_levels old other

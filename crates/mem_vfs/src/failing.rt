@@ -1,20 +1,20 @@
 //! A device in memory that fails at the calls that it is told to.
 
-ghost use Rattle.std.specs.Prelude.{◌≡◌, ℕ, ◌≤◌, List, length, IfOk, IfNone, OnSome};
+ghost use Rattle.std.specs.Prelude.{◌≡◌, ℕ, ◌≤◌, List, length, Some, IfOk, IfNone, OnSome, IsTrue};
 ghost use Rattle.vfs_model.specs.File.{absent};
-ghost use Rattle.byte_base.specs.Count.{Rose};
+ghost use Rattle.vfs_trait.specs.Log.{counted_up};
 
 use crate::SureVfs;
-use crate::sure::zero_all;
+use crate::space::zero_all;
 use std::alloc::{AllocError, Global};
-use vfs_model::{Fid, Kind, Name};
-use vfs_trait::{Bytes, Vfs, VfsFault};
+use vfs_model::{Fid, Kind, Level, Name, Owner};
+use vfs_trait::{Answer, Bytes, Control, Vfs, VfsFault};
 
 /// A device call that fails.
 #[derive(Clone, Copy, Debug, PartialEq, Eq)]
 pub struct FailAt {
-    /// The number of the call, from 1, among all calls that reach the device: `open`, `read`, `write`,
-    /// `cut`, `sync`, `length`.
+    /// The number of the call, from 1, among all calls that reach the device: `open`, `exists`, `read`,
+    /// `write`, `cut`, `sync`, `length`, `delete`, `sync_names`.
     pub call: u64,
     /// How many bytes a failing write puts first, or all if it is shorter.
     pub reach: u64,
@@ -26,12 +26,13 @@ pub struct FailAt {
 /// it stays.
 #[derive(Drop)]
 pub struct MemVfs {
-    device: SureVfs,
-    fails: Vec<FailAt>,
-    calls: u64,
-    /// Whether every call fails from now on.
-    dead: bool,
-    faults: u64,
+    pub(crate) device: SureVfs,
+    pub(crate) fails: Vec<FailAt>,
+    /// How many device calls there were.
+    pub(crate) calls: u64,
+    /// Whether every call fails from now on, and changes nothing.
+    pub(crate) dead: bool,
+    pub(crate) faults: u64,
 }
 
 impl MemVfs {
@@ -78,12 +79,14 @@ impl MemVfs {
         self.device.bytes_of(name)
     }
 
-    /// Counts a call, and says whether it fails: then how many bytes a write puts first.
+    /// Counts a device call, and says whether it fails: then how many bytes a write puts first, none where the device
+    /// is dead.
     fn fails_now(&mut self) -> Option<u64>
         ensures goes { IfNone result (self.new.faults ≡ self.old.faults) }
-        ensures fails { OnSome result (Rose self.old.faults self.new.faults) }
+        ensures fails { OnSome result (self.new.faults ≡ counted_up self.old.faults 1) }
         ensures counts { self.old.faults ≤ self.new.faults }
         ensures device { self.new.device ≡ self.old.device }
+        ensures dead { IsTrue self.old.dead → result ≡ Some 0 }
     {
         self.calls = self.calls.saturating_add(1);
         let reach = if self.dead { 0 } else { self.told_to_fail()? };
@@ -104,6 +107,14 @@ impl MemVfs {
 }
 
 impl Vfs for MemVfs {
+    ghost use Rattle.std.specs.Prelude.{◌+◌, ◌^◌};
+    ghost use Rattle.vfs_model.specs.Name.{kind_of};
+    ghost use Rattle.vfs_trait.specs.State.{file_at, name_at, IsOpen, Steady, RestsBut, Stands};
+    ghost use Rattle.vfs_trait.specs.Log.{Logs, outcome_of};
+    ghost use Rattle.vfs_trait.specs.declared.log.Call.TheVariants.{Write};
+    ghost use Rattle.vfs_trait.specs.declared.log.Outcome.TheVariants.{Ok as Done};
+    ghost use Rattle.vfs_trait.specs.Follows.{Follows, WriteUnsettles};
+    ghost use Rattle.vfs_trait.specs.Calls.{WriteCaused, MayWrite, checked, WriteLeaves, WriteCounts, Leaves};
     ghost use Rattle.mem_vfs.specs.Failing.{mem_state};
 
     ghost state = { mem_state };
@@ -113,6 +124,13 @@ impl Vfs for MemVfs {
             return Err(VfsFault::Failed);
         }
         self.device.open(name, kind)
+    }
+
+    fn exists(&mut self, name: &Name) -> Result<bool, VfsFault> {
+        if self.fails_now().is_some() {
+            return Err(VfsFault::Failed);
+        }
+        self.device.exists(name)
     }
 
     fn close(&mut self, fid: Fid) {
@@ -127,9 +145,24 @@ impl Vfs for MemVfs {
         self.device.read(fid, off, buf)
     }
 
-    fn write(&mut self, fid: Fid, off: u64, bytes: &[u8]) -> Result<(), VfsFault> {
+    fn write(&mut self, fid: Fid, off: u64, bytes: &[u8]) -> Result<(), VfsFault>
+        requires is_open { IsOpen (mem_state self.old) fid.0 }
+        requires within { off + length bytes.now ≤ 2 ^ 32 }
+        requires reach { IsTrue (mem_state self.old).tells → off ≤ length (file_at (mem_state self.old) fid.0).now.bytes }
+        requires pages { MayWrite (kind_of (name_at (mem_state self.old) fid.0)) (checked (mem_state self.old).layers) off bytes.now }
+        ensures steady { Steady (mem_state self.old) (mem_state self.new) }
+        ensures cause { WriteCaused (mem_state self.old) (mem_state self.new) (name_at (mem_state self.old) fid.0) off (length bytes.now) result }
+        ensures rests { RestsBut (mem_state self.old) (mem_state self.new) fid.0 }
+        ensures counts { WriteCounts (mem_state self.old) (mem_state self.new) fid.0 (name_at (mem_state self.old) fid.0) off (length bytes.now) result }
+        ensures leaves { Leaves (mem_state self.old) (mem_state self.new) (name_at (mem_state self.old) fid.0) (λ old new. WriteLeaves ((mem_state self.old).delicate (name_at (mem_state self.old) fid.0)) old new off bytes.now result) }
+        ensures follows { Follows (mem_state self.old) (mem_state self.new) result (WriteUnsettles (mem_state self.old) (mem_state self.new) fid.0 off (length bytes.now)) }
+        ensures logs { Logs (mem_state self.old).layers (mem_state self.old).log (mem_state self.new).log (Write fid off (length bytes.now)) (outcome_of (λ _. Done) result) }
+        ensures stands { Stands (mem_state self.new) }
+        ensures dead { IsTrue self.old.dead → (mem_state self.new).files ≡ (mem_state self.old).files }
+    {
         match self.fails_now() {
             None => self.device.write(fid, off, bytes),
+            Some(0) => Err(VfsFault::Failed),
             Some(reach) => {
                 let _ = self.device.write(fid, off, front(bytes, reach));
                 Err(VfsFault::Failed)
@@ -158,8 +191,38 @@ impl Vfs for MemVfs {
         self.device.length(fid)
     }
 
+    fn delete(&mut self, name: &Name, kind: Kind) -> Result<(), VfsFault> {
+        if self.fails_now().is_some() {
+            return Err(VfsFault::Failed);
+        }
+        self.device.delete(name, kind)
+    }
+
+    fn sync_names(&mut self) -> Result<(), VfsFault> {
+        if self.fails_now().is_some() {
+            return Err(VfsFault::Failed);
+        }
+        self.device.sync_names()
+    }
+
+    fn lock(&mut self, fid: Fid, owner: Owner, level: Level) -> Result<(), VfsFault> {
+        self.device.lock(fid, owner, level)
+    }
+
+    fn unlock(&mut self, fid: Fid, owner: Owner, level: Level) {
+        self.device.unlock(fid, owner, level);
+    }
+
+    fn reserved(&self, fid: Fid) -> bool {
+        self.device.reserved(fid)
+    }
+
     fn view_holds(&self) {
         self.device.view_holds();
+    }
+
+    fn control(&mut self, control: Control) -> Result<Answer, VfsFault> {
+        self.device.control(control)
     }
 }
 

@@ -1,12 +1,15 @@
 //! Files by their names.
 
-ghost use Rattle.std.specs.Prelude.{◌≡◌, ℕ, ◌+◌, ◌^◌, ◌≤◌, List, [], ◌<◌, length, slice_index_or, find, None, true, OnOk, OnErr, IfOk, IfSome, MatchOption};
-ghost use Rattle.vfs_model.specs.Effect.{Wrote, Cut, Opened};
-ghost use Rattle.vfs_model.specs.Store.{OthersStay};
-ghost use Rattle.mem_vfs.specs.Given.{Has, Shows};
+ghost use Rattle.std.specs.Prelude.{◌≡◌, ℕ, ◌+◌, ◌^◌, ◌≤◌, List, [], ◌<◌, length, slice_index_or, find, None, OnOk, OnErr, IfOk, IfSome, IsTrue, MatchOption};
+ghost use Rattle.vfs_model.specs.Effect.{Synced};
+ghost use Rattle.vfs_model.specs.Store.{NamesSynced};
 ghost use Rattle.mem_vfs.specs.declared.file.File.{File};
-ghost use Rattle.mem_vfs.specs.Memory.{IsPlace, is_named, has_file, store, file_state, OthersKept, SameNames};
+ghost use Rattle.mem_vfs.specs.Memory.{IsPlace, is_named, store, file_state, IsThere};
+ghost use Rattle.mem_vfs.specs.Change.{Changes, StayThere, Makes, IsOpened, Writes, IsCut, IsDeleted};
+ghost use Rattle.mem_vfs.specs.Given.{Has, Shows};
+ghost use Rattle.mem_vfs.specs.Image.{AreImagesBy};
 
+use crate::ImageChoice;
 use crate::file::File;
 use std::alloc::{AllocError, Global};
 use vfs_model::Name;
@@ -23,8 +26,19 @@ pub fn settled(alloc: Global, given: &[(Name, Bytes)]) -> Result<Vec<File>, Allo
     Ok(files)
 }
 
+/// The image that a choice names of each file.
+pub fn images(alloc: Global, files: &[File], choice: &ImageChoice) -> Result<Vec<File>, AllocError>
+    ensures { IfOk result (λ images. AreImagesBy choice.now files.now images.items) }
+{
+    let mut images = Vec::new(alloc);
+    for file in files {
+        images.push(file.image(alloc, choice)?)?;
+    }
+    Ok(images)
+}
+
 /// Where the first file of a name stands.
-pub fn place_of(files: &[File], name: &Name) -> Option<usize>
+fn place_of(files: &[File], name: &Name) -> Option<usize>
     ensures place { MatchOption result (find (is_named name.now) files.now ≡ None) (IsPlace files.now name.now) }
     ensures within { IfSome result (λ place. place < length files.now) }
     ensures state { IfSome result (λ place. (f : File) → f ≡ slice_index_or files.now place f → store files.now name.now ≡ file_state f) }
@@ -38,11 +52,10 @@ pub fn place_of(files: &[File], name: &Name) -> Option<usize>
 }
 
 /// The place of a file that is there.
-pub fn place_in(files: &[File], name: &Name) -> usize
-    requires { has_file files.now name.now ≡ true }
+fn place_in(files: &[File], name: &Name) -> usize
+    requires { IsThere files.now name.now }
     ensures place { IsPlace files.now name.now result }
     ensures within { result < length files.now }
-    ensures named { (f : File) → f ≡ slice_index_or files.now result f → f.name ≡ name.now }
     ensures state { (f : File) → f ≡ slice_index_or files.now result f → store files.now name.now ≡ file_state f }
 {
     place_of(files, name).unwrap()
@@ -50,57 +63,75 @@ pub fn place_in(files: &[File], name: &Name) -> usize
 
 /// The bytes of a file that is there.
 pub fn bytes_in<'a>(files: &'a [File], name: &Name) -> &'a [u8]
-    requires { has_file files.now name.now ≡ true }
+    requires { IsThere files.now name.now }
     ensures { result.now ≡ (store files.now name.now).now.bytes }
 {
     let place = place_in(files, name);
     &files[place].present
 }
 
-/// The bytes of a file, or `None` where it is missing.
+/// The bytes of a file, or `None` where it is not there.
 pub fn bytes_of<'a>(files: &'a [File], name: &Name) -> Option<&'a [u8]>
     ensures { Shows (store files.now name.now).now result }
 {
+    if !is_there(files, name) {
+        return None;
+    }
+    Some(bytes_in(files, name))
+}
+
+/// Whether a file of the name is there.
+pub fn is_there(files: &[File], name: &Name) -> bool
+    ensures { result ≡ (store files.now name.now).now.there }
+{
     match place_of(files, name) {
-        Some(place) => Some(&files[place].present),
-        None => None,
+        Some(place) => files[place].there,
+        None => false,
     }
 }
 
-/// Makes a file where it is missing: empty, and its name not settled.
+/// Makes a file where it is not there: empty, and its name not sure.
 pub fn make_missing(files: &mut Vec<File>, alloc: Global, name: &Name) -> Result<(), AllocError>
-    ensures ok { OnOk result (has_file files.new.items name.now ≡ true) }
-    ensures opened { OnOk result (Opened (store files.old.items name.now) (store files.new.items name.now)) }
-    ensures others { OthersStay (store files.old.items) (store files.new.items) name.now }
-    ensures stay { (other : List ℕ) → has_file files.old.items other ≡ true → has_file files.new.items other ≡ true }
-    ensures err { OnErr result (files.new.items ≡ files.old.items) }
+    ensures makes { Changes (Makes result) files.old.items files.new.items name.now }
+    ensures stay { StayThere files.old.items files.new.items }
 {
     match place_of(files, name) {
-        Some(_) => Ok(()),
+        Some(place) => {
+            open_at(files, name, place);
+            Ok(())
+        }
         None => make(files, alloc, name),
     }
 }
 
-/// Makes a file that is missing.
+/// Makes the file at a place again where it is not there.
+fn open_at(files: &mut [File], name: &Name, place: usize)
+    requires at { IsPlace files.old name.now place }
+    requires within { place < length files.old }
+    ensures opened { Changes IsOpened files.old files.new name.now }
+    ensures stay { StayThere files.old files.new }
+{
+    let file = &mut files[place];
+    file.open();
+}
+
+/// Makes a file of a name that has none in the list.
 fn make(files: &mut Vec<File>, alloc: Global, name: &Name) -> Result<(), AllocError>
     requires { find (is_named name.now) files.old.items ≡ None }
-    ensures others { OthersKept files.old.items files.new.items name.now }
-    ensures ok { OnOk result ((has_file files.new.items name.now ≡ true) × ((store files.new.items name.now).now.bytes ≡ [])) }
-    ensures err { OnErr result (files.new.items ≡ files.old.items) }
+    ensures makes { Changes (Makes result) files.old.items files.new.items name.now }
+    ensures stay { StayThere files.old.items files.new.items }
 {
     files.push(File::new(alloc, name))?;
     Ok(())
 }
 
-/// Writes to a file that is there. Without memory the file is as it was.
+/// Writes to a file that is there.
 pub fn write(files: &mut [File], name: &Name, off: usize, bytes: &[u8]) -> Result<(), AllocError>
-    requires there { has_file files.old name.now ≡ true }
+    requires there { IsThere files.old name.now }
     requires reach { off ≤ length (store files.old name.now).now.bytes }
     requires fits { off + length bytes.now ≤ 2 ^ 32 }
-    ensures names { SameNames files.old files.new }
-    ensures others { OthersStay (store files.old) (store files.new) name.now }
-    ensures ok { OnOk result (Wrote (store files.old name.now) (store files.new name.now) off bytes.now) }
-    ensures err { OnErr result ((store files.new name.now).now ≡ (store files.old name.now).now) }
+    ensures writes { Changes (Writes result off bytes.now) files.old files.new name.now }
+    ensures stay { StayThere files.old files.new }
 {
     let place = place_in(files, name);
     let file = &mut files[place];
@@ -109,11 +140,10 @@ pub fn write(files: &mut [File], name: &Name, off: usize, bytes: &[u8]) -> Resul
 
 /// Cuts a file that is there to a length that is at most its own.
 pub fn cut(files: &mut [File], name: &Name, len: usize)
-    requires there { has_file files.old name.now ≡ true }
+    requires there { IsThere files.old name.now }
     requires reach { len ≤ length (store files.old name.now).now.bytes }
-    ensures names { SameNames files.old files.new }
-    ensures others { OthersStay (store files.old) (store files.new) name.now }
-    ensures cut { Cut (store files.old name.now) (store files.new name.now) len }
+    ensures cut { Changes (IsCut len) files.old files.new name.now }
+    ensures stay { StayThere files.old files.new }
 {
     let place = place_in(files, name);
     let file = &mut files[place];
@@ -122,12 +152,40 @@ pub fn cut(files: &mut [File], name: &Name, len: usize)
 
 /// Keeps the bytes of a file that is there as those of its last sync.
 pub fn sync(files: &mut [File], name: &Name)
-    requires there { has_file files.old name.now ≡ true }
-    ensures names { SameNames files.old files.new }
-    ensures others { OthersStay (store files.old) (store files.new) name.now }
-    ensures now { (store files.new name.now).now ≡ (store files.old name.now).now }
+    requires there { IsThere files.old name.now }
+    ensures synced { Changes Synced files.old files.new name.now }
+    ensures stay { StayThere files.old files.new }
 {
     let place = place_in(files, name);
     let file = &mut files[place];
     file.sync();
+}
+
+/// Deletes a file. A missing one stays so.
+pub fn delete(files: &mut [File], name: &Name)
+    ensures { Changes IsDeleted files.old files.new name.now }
+{
+    if let Some(place) = place_of(files, name) {
+        delete_at(files, name, place);
+    }
+}
+
+/// Deletes the file at a place.
+fn delete_at(files: &mut [File], name: &Name, place: usize)
+    requires at { IsPlace files.old name.now place }
+    requires within { place < length files.old }
+    ensures { Changes IsDeleted files.old files.new name.now }
+{
+    let file = &mut files[place];
+    file.delete();
+}
+
+/// Makes every name outlast a stop as it is now.
+pub fn sync_names(files: &mut [File])
+    ensures synced { NamesSynced (store files.old) (store files.new) }
+    ensures stay { StayThere files.old files.new }
+{
+    for file in files.iter_mut() {
+        file.sync_name();
+    }
 }

@@ -1,22 +1,23 @@
 //! A device in memory that never fails.
 
-ghost use Rattle.std.specs.Prelude.{◌≡◌, ℕ, ◌-◌, ◌≤◌, ◌++◌, length, take, replicate};
-ghost use Rattle.vfs_trait.specs.Calls.{FillsUp, Reads, AllZero};
 ghost use Rattle.mem_vfs.specs.Memory.{HandlesFound};
 
 use crate::file::File;
+use crate::space::copy_out;
 use crate::{files, handles};
+use handles::Handle;
 use std::alloc::{AllocError, Global};
-use vfs_model::{Fid, Kind, Name};
-use vfs_trait::{Bytes, Vfs, VfsFault};
+use vfs_model::{Fid, Kind, Level, Name, Owner};
+use vfs_trait::{Answer, Bytes, Control, Vfs, VfsFault};
 
 /// A device in memory that never fails: its count of faults is the constant 0.
 #[derive(Drop)]
 pub struct SureVfs {
-    alloc: Global,
-    files: Vec<File>,
-    /// The name of each open file, by its number.
-    handles: Vec<Option<Name>>,
+    pub(crate) alloc: Global,
+    /// Also those that were deleted, since a stop may bring them back.
+    pub(crate) files: Vec<File>,
+    /// The open files, by their numbers.
+    pub(crate) handles: Vec<Option<Handle>>,
     ghost found: { HandlesFound handles.items files.items },
 }
 
@@ -65,8 +66,17 @@ impl Vfs for SureVfs {
     ghost state = { sure_state };
 
     fn open(&mut self, name: &Name, _kind: Kind) -> Result<Fid, VfsFault> {
-        files::make_missing(&mut self.files, self.alloc, name).map_err(|_| VfsFault::Memory)?;
-        handles::take(&mut self.handles, name).map_err(|_| VfsFault::Memory)
+        if files::make_missing(&mut self.files, self.alloc, name).is_err() {
+            return Err(VfsFault::Memory);
+        }
+        match handles::take(&mut self.handles, name) {
+            Ok(fid) => Ok(fid),
+            Err(_) => Err(VfsFault::Memory),
+        }
+    }
+
+    fn exists(&mut self, name: &Name) -> Result<bool, VfsFault> {
+        Ok(files::is_there(&self.files, name))
     }
 
     fn close(&mut self, fid: Fid) {
@@ -81,7 +91,10 @@ impl Vfs for SureVfs {
 
     fn write(&mut self, fid: Fid, off: u64, bytes: &[u8]) -> Result<(), VfsFault> {
         let name = handles::name_at(&self.handles, fid);
-        files::write(&mut self.files, &name, off as usize, bytes).map_err(|_| VfsFault::Memory)
+        match files::write(&mut self.files, &name, off as usize, bytes) {
+            Ok(()) => Ok(()),
+            Err(_) => Err(VfsFault::Memory),
+        }
     }
 
     fn cut(&mut self, fid: Fid, len: u64) -> Result<(), VfsFault> {
@@ -101,34 +114,37 @@ impl Vfs for SureVfs {
         Ok(files::bytes_in(&self.files, &name).len() as u64)
     }
 
+    fn delete(&mut self, name: &Name, _kind: Kind) -> Result<(), VfsFault> {
+        files::delete(&mut self.files, name);
+        Ok(())
+    }
+
+    fn sync_names(&mut self) -> Result<(), VfsFault> {
+        files::sync_names(&mut self.files);
+        Ok(())
+    }
+
+    fn lock(&mut self, fid: Fid, owner: Owner, level: Level) -> Result<(), VfsFault> {
+        match handles::lock(&mut self.handles, fid, owner, level) {
+            Ok(()) => Ok(()),
+            Err(busy) => Err(VfsFault::Busy {
+                holder: busy.holder,
+                level: busy.level,
+            }),
+        }
+    }
+
+    fn unlock(&mut self, fid: Fid, owner: Owner, level: Level) {
+        handles::unlock(&mut self.handles, fid, owner, level);
+    }
+
+    fn reserved(&self, fid: Fid) -> bool {
+        handles::reserved(&self.handles, fid)
+    }
+
     fn view_holds(&self) {}
-}
 
-/// Copies what a file has from an offset on, with zeros behind it, and answers how many bytes it has there.
-fn copy_out(bytes: &[u8], off: usize, buf: &mut [u8]) -> usize
-    ensures fills { FillsUp buf.new result }
-    ensures reads { Reads bytes.now off buf.new result }
-    ensures len { length buf.new ≡ length buf.old }
-{
-    let from = off.min(bytes.len());
-    let count = buf.len().min(bytes.len() - from);
-    buf[..count].copy_from_slice(&bytes[from..from + count]);
-    zero_behind(buf, count);
-    count
-}
-
-/// Fills a buffer with zeros.
-pub fn zero_all(buf: &mut [u8])
-    ensures zeros { AllZero buf.new }
-    ensures len { length buf.new ≡ length buf.old }
-{
-    zero_behind(buf, 0);
-}
-
-/// Puts zeros behind the first bytes.
-fn zero_behind(buf: &mut [u8], count: usize)
-    requires { count ≤ length buf.old }
-    ensures { buf.new ≡ take count buf.old ++ replicate (length buf.old - count) 0 }
-{
-    buf[count..].fill(0);
+    fn control(&mut self, _control: Control) -> Result<Answer, VfsFault> {
+        Ok(Answer::Unknown)
+    }
 }

@@ -141,7 +141,7 @@ by_chunks below (suc left) chunk name number off end lengths =
     (λ after. by_chunks below left chunk name (suc number) off end after))
 
 -- a write of a database from a place up to an end, by the limits of each quota layer's groups and the lengths at each layer
-pub pass : List Layer → List (List ℕ) → Lengths → List ℕ → ℕ → ℕ → Passing
+unfoldable pub pass : List Layer → List (List ℕ) → Lengths → List ℕ → ℕ → ℕ → Passing
 pass [] limits lengths name off end = Passes lengths
 pass (Trace ∷ below) limits [] name off end = Passes []
 pass (Cksum page ∷ below) limits [] name off end = Passes []

@@ -1,5 +1,5 @@
 use Rattle.mem_vfs.proofs.PlaceLemmas.{some_place, place_within, place_found}
-use Rattle.mem_vfs.proofs.StoreLemmas.{named_at, store_at}
+use Rattle.mem_vfs.proofs.StoreLemmas.{store_at}
 use Rattle.mem_vfs.proofs.files.place_in.Goals as goal
 
 pub unwrap-requires : goal.unwrap-requires
@@ -12,11 +12,6 @@ pub returns-clause-within : goal.returns-clause-within
 returns-clause-within c =
     place_within c.args.files.now c.args.name.now c.unwrap.result
     (place_found c.args.files.now c.args.name.now c.place_of.result c.unwrap.result c.place_of.ensures.place c.unwrap.ensures)
-
-pub returns-clause-named : goal.returns-clause-named
-returns-clause-named c = λ f is.
-    named_at c.args.files.now c.args.name.now c.unwrap.result f
-    (place_found c.args.files.now c.args.name.now c.place_of.result c.unwrap.result c.place_of.ensures.place c.unwrap.ensures) is
 
 pub returns-clause-state : goal.returns-clause-state
 returns-clause-state c = λ f is.

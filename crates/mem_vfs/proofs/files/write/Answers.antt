@@ -1,32 +1,14 @@
-use Rattle.std.proofs.Common.{◌≡◌, ◌≤◌, get_or, length}
-use Rattle.std.specs.Result.{OnOk, OnErr}
-use Rattle.std.proofs.lemmas.Result.{on_ok_weaker, on_err_weaker}
-use Rattle.vfs_model.specs.Effect.{Wrote}
-use Rattle.mem_vfs.proofs.SpliceLemmas.{wrote, same_now}
-use Rattle.mem_vfs.proofs.StoreLemmas.{names_kept, others_stay, state_changes, state_read}
+use Rattle.mem_vfs.specs.Memory.{store}
+use Rattle.mem_vfs.specs.Change.{Writes}
+use Rattle.std.proofs.Common.{slice_set}
+use Rattle.mem_vfs.proofs.StoreLemmas.{changes, still_there}
+use Rattle.mem_vfs.proofs.WriteLemmas.{writes_there}
 use Rattle.mem_vfs.proofs.files.write.Goals as goal
 
-pub returns-clause-names : goal.returns-clause-names
-returns-clause-names c =
-    names_kept c.args.files.now c.place_in-place.result c.args.name.now c.index-files-place.result c.write.new.self
-    c.place_in-place.ensures.place c.index-files-place.is c.write.ensures.name
+pub returns-clause-writes : goal.returns-clause-writes
+returns-clause-writes c = changes (Writes c.write.result c.args.off c.args.bytes.now) c.args.files.now c.place_in-place.result c.args.name.now c.index-files-place.result c.write.new.self c.place_in-place.ensures.place c.index-files-place.is c.write.ensures.name c.write.ensures.writes
 
-pub returns-clause-others : goal.returns-clause-others
-returns-clause-others c =
-    others_stay c.args.files.now c.place_in-place.result c.args.name.now c.index-files-place.result c.write.new.self
-    c.place_in-place.ensures.place c.index-files-place.is c.write.ensures.name
-
-pub returns-clause-ok : goal.returns-clause-ok
-returns-clause-ok c =
-    let old = get_or c.args.files.now c.place_in-place.result c.index-files-place.result in
-    state_changes (λ old new. OnOk c.write.result (Wrote old new c.args.off c.args.bytes.now)) c.args.files.now c.place_in-place.result c.args.name.now
-    c.index-files-place.result c.write.new.self c.place_in-place.ensures.place c.index-files-place.is c.write.ensures.name
-    (on_ok_weaker c.write.result (λ is. wrote old c.write.new.self c.args.off c.args.bytes.now (state_read (λ s. c.args.off ≤ length s.now.bytes) c.args.files.now c.place_in-place.result c.args.name.now c.index-files-place.result
-    c.place_in-place.ensures.place c.index-files-place.is c.requires.reach) is) c.write.ensures.ok)
-
-pub returns-clause-err : goal.returns-clause-err
-returns-clause-err c =
-    let old = get_or c.args.files.now c.place_in-place.result c.index-files-place.result in
-    state_changes (λ old new. OnErr c.write.result (new.now ≡ old.now)) c.args.files.now c.place_in-place.result c.args.name.now
-    c.index-files-place.result c.write.new.self c.place_in-place.ensures.place c.index-files-place.is c.write.ensures.name
-    (on_err_weaker c.write.result (λ is. same_now old c.write.new.self is) c.write.ensures.err)
+pub returns-clause-stay : goal.returns-clause-stay
+returns-clause-stay c =
+    let h = changes (Writes c.write.result c.args.off c.args.bytes.now) c.args.files.now c.place_in-place.result c.args.name.now c.index-files-place.result c.write.new.self c.place_in-place.ensures.place c.index-files-place.is c.write.ensures.name c.write.ensures.writes in
+    still_there (Writes c.write.result c.args.off c.args.bytes.now) c.args.files.now (slice_set c.args.files.now c.place_in-place.result c.write.new.self) c.args.name.now h (writes_there c.write.result c.args.off c.args.bytes.now (store c.args.files.now c.args.name.now) (store (slice_set c.args.files.now c.place_in-place.result c.write.new.self) c.args.name.now) h.file)

@@ -1,5 +1,6 @@
 pub mod RowsLemmas
 pub mod LineLemmas
+pub mod TouchLemmas
 pub mod SessionLemmas
 pub mod RunLemmas
 pub mod ReadLemmas

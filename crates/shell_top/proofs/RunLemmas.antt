@@ -2,7 +2,6 @@ use Rattle.std.proofs.Common.{◌≡◌, ◌≢◌, ℕ, ◌+◌, ◌-◌, ◌<�
 use Rattle.std.specs.Prelude.{Result, Ok, Err, OnErr}
 use Rattle.std.specs.List.{AllByRecursion, flat_map}
 use Rattle.std.proofs.lemmas.List.{append-nil, take_all, take-append-drop, take_more}
-use Rattle.vfs_trait.specs.State.{StackState, Steady}
 use Rattle.shell_top.specs.Ends.{SinkState, SinkSteady, Takes}
 use Rattle.shell_top.specs.Line.{HasNoFeed, Cuts, ended}
 use Rattle.shell_top.specs.Machine.{Machine, Step, Run}
@@ -16,11 +15,8 @@ on_err (Err e) p = p
 
 -- ---- the stack and the sink
 
-pub steady_same : (s : StackState) → Steady s s
-steady_same s = record { tells = refl; layers = refl; faults = omega arith }
-
-pub steady_on : (s0 s1 s2 : StackState) → Steady s0 s1 → Steady s1 s2 → Steady s0 s2
-steady_on s0 s1 s2 a b = record { tells = b.tells ∙ a.tells; layers = b.layers ∙ a.layers; faults = omega (arith, a.faults, b.faults) }
+pub sink_same : (s : SinkState) → SinkSteady s s
+sink_same s = record { tells = refl; faults = omega arith }
 
 pub sink_on : (s0 s1 s2 : SinkState) → SinkSteady s0 s1 → SinkSteady s1 s2 → SinkSteady s0 s2
 sink_on s0 s1 s2 a b = record { tells = b.tells ∙ a.tells; faults = omega (arith, a.faults, b.faults) }

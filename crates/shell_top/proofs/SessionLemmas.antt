@@ -6,11 +6,10 @@ use Rattle.std.specs.List.{flat_map}
 use Rattle.std.specs.FinMap as map
 use Rattle.std.proofs.lemmas.List.{nil_from_length}
 use Rattle.vfs_model.specs.File.{FileState}
-use Rattle.vfs_model.specs.Store.{FilesStay}
-use Rattle.vfs_model.specs.Effect.{Wrote, Cut, Opened}
+use Rattle.vfs_model.specs.Effect.{NoLooser, Wrote, Cut, Opened}
 use Rattle.vfs_model.specs.Places.{same_places}
 use Rattle.vfs_trait.specs.State.{StackState, NoneOpen, Steady, OpenStays, file_at, name_at}
-use Rattle.vfs_trait.specs.Calls.{Takes}
+use Rattle.vfs_trait.specs.Calls.{Leaves, SyncLeaves, Takes}
 use Rattle.shell_top.specs.Rows.{row_bytes, row_file}
 use Rattle.shell_top.specs.Machine.{content, Opens, Machine, Step, IsAccepted}
 use Rattle.shell_top.specs.declared.reply.Reply.TheVariants.{Open}
@@ -20,20 +19,34 @@ use Rattle.vfs_trait.specs.declared.fault.VfsFault.TheVariants.{Failed, Memory a
 use Rattle.shell_top.specs.Line.{IsPut}
 use Rattle.shell_top.specs.Stands.{going, halted, machine_of, table_len, HasCause, reply_for}
 use Rattle.shell_top.proofs.RowsLemmas.{row_file_longer}
+use Rattle.shell_top.proofs.TouchLemmas.{same_name}
 use Rattle.shell_top.proofs.LineLemmas.{put_longer_line}
 
 pub always : {T E P : Type 0} (r : Result T E) → P → OnOk r P
 always (Ok x) p = p
 always (Err e) p = tt
 
+sync_stays : (old new : FileState) (r : Result Unit VfsFault) → SyncLeaves old new r → new.now ≡ old.now
+sync_stays old new (Ok done) left = left.now
+sync_stays old new (Err fault) left = left.now
+
 -- a file that was written from its start, cut behind that and synced has just these bytes
-pub rewritten : (old mid new synced : FileState) (bytes : List ℕ) → Wrote old mid 0 bytes → Cut mid new (length bytes) → synced.now ≡ new.now → synced.now.bytes ≡ bytes
-rewritten old mid new synced bytes wrote was_cut same =
-    ap (λ f. f.bytes) same
-    ∙ same_places new.now.bytes bytes was_cut.size (λ place less.
+rewritten : (delicate : Bool) (old mid new : FileState) (bytes : List ℕ) → Wrote delicate old mid 0 bytes → Cut mid new (length bytes) → new.now.bytes ≡ bytes
+rewritten delicate old mid new bytes wrote was_cut =
+    same_places new.now.bytes bytes was_cut.size (λ place less.
     let e : 0 + place ≡ place = omega arith in
     was_cut.touched.bytes place (omega (arith, less, was_cut.size))
     ∙ ap (slice_get mid.now.bytes) (sym e) ∙ wrote.inside place less)
+
+pub rewritten_at : (delicate : Bool) (a b c d : StackState) (fid : ℕ) (bytes : List ℕ) (r : Result Unit VfsFault) → OpenStays a b → OpenStays b c → OpenStays c d
+    → Wrote delicate (file_at a fid) (b.files (name_at a fid)) 0 bytes → Cut (file_at b fid) (c.files (name_at b fid)) (length bytes)
+    → SyncLeaves (file_at c fid) (d.files (name_at c fid)) r → (file_at d fid).now.bytes ≡ bytes
+rewritten_at delicate a b c d fid bytes r one two three wrote was_cut synced =
+    let P : List ℕ → Type 0 = λ n. Wrote delicate (file_at a fid) (b.files n) 0 bytes in
+    let Q : List ℕ → Type 0 = λ n. Cut (file_at b fid) (c.files n) (length bytes) in
+    ap (λ n. (d.files n).now.bytes) (same_name c d fid three) ∙ ap (λ f. f.bytes) (sync_stays _ _ r synced)
+    ∙ rewritten delicate (file_at a fid) (file_at b fid) (file_at c fid) bytes (subst P (sym (same_name a b fid one)) wrote)
+    (subst Q (sym (same_name b c fid two)) was_cut)
 
 no_content : (there : Bool) (bytes : List ℕ) → (there ≡ true → bytes ≡ []) → content (record { there = there; bytes = bytes; bad = λ _. false }) ≡ []
 no_content true bytes h = h refl
@@ -42,21 +55,22 @@ no_content false bytes h = refl
 -- a file that is found empty had no content
 was_empty : (old mid : FileState) → Opened old mid → old.wild ≡ false → mid.now.bytes ≡ [] → content old.now ≡ []
 was_empty old mid opened tame empty =
-    no_content old.now.there old.now.bytes (λ there. ap (λ f. f.bytes) (sym (opened.touched.found there tame)) ∙ empty)
+    no_content old.now.there old.now.bytes (λ there. ap (λ f. f.bytes) (sym (opened.touched.found there tame).now) ∙ empty)
 
 -- what an opening of an empty file leaves
 pub opens_empty : (old mid new : StackState) (name : List ℕ) (fid : ℕ) → NoneOpen old → Takes old mid name fid → Steady old mid → Steady mid new
-    → (IsTrue old.tells → Opened (old.files name) (mid.files name)) → OpenStays mid new → (IsTrue mid.tells → FilesStay mid.files new.files)
+    → (IsTrue old.tells → Opened (old.files name) (mid.files name)) → OpenStays mid new → Leaves mid new (name_at mid fid) NoLooser
     → (IsTrue mid.tells → 0 ≡ length (file_at mid fid).now.bytes)
     → (new.open_files fid ≡ Some name) × ((other : ℕ) → other ≢ fid → new.open_files other ≡ None)
     × (IsTrue new.tells → (new.files name).now.bytes ≡ []) × Opens old name Open (going map.empty new.faults)
-opens_empty old mid new name fid none takes first second opened stays files size =
+opens_empty old mid new name fid none takes first second opened stays left size =
     let named : name_at mid fid ≡ name = ap (λ o. unwrap_or o []) takes.named in
     let empty_of : IsTrue mid.tells → (mid.files name).now.bytes ≡ [] = λ tells.
-    nil_from_length _ (sym (size tells ∙ ap (λ n. length (mid.files n).now.bytes) named)) in (
-      stays fid ∙ takes.named,
-      λ other differ. stays other ∙ takes.others other differ ∙ none other,
-      λ tells. let before = sym second.tells ∙ tells in ap (λ f. f.now.bytes) ((files before).each name) ∙ empty_of before,
+    nil_from_length _ (sym (size tells ∙ ap (λ n. length (mid.files n).now.bytes) named)) in
+    let P : List ℕ → Type 0 = λ n. NoLooser (mid.files n) (new.files n) in (
+      stays.names fid ∙ takes.named,
+      λ other differ. stays.names other ∙ takes.others other differ ∙ none other,
+      λ tells. let before = sym second.tells ∙ tells in ap (λ f. f.bytes) (subst P named (left.file before)).now ∙ empty_of before,
       (
         λ tells tame. was_empty (old.files name) (mid.files name) (opened tells) tame (empty_of (first.tells ∙ tells)),
         refl,

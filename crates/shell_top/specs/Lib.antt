@@ -5,6 +5,7 @@ pub mod Kept
 pub mod Ends
 pub mod Reply
 pub mod Machine
+pub mod Touched
 pub mod Stands
 pub mod SureEnds
 pub mod ListEnds

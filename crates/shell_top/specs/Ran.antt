@@ -1,12 +1,15 @@
 -- What a whole run of the shell does, by its status.
 use Rattle.std.specs.Prelude.{◌≡◌, ◌≢◌, ℕ, ◌≤◌, ◌<◌, true, false, List, [], ◌∷◌, ◌++◌, length, IsTrue}
 use Rattle.byte_base.specs.Count.{Rose}
-use Rattle.vfs_trait.specs.State.{StackState}
+use Rattle.vfs_model.specs.Store.{OthersStay, present}
+use Rattle.vfs_model.specs.View.{through}
+use Rattle.vfs_trait.specs.State.{StackState, Steady}
 use Rattle.shell_top.specs.Ends.{SourceState, SinkState}
 use Rattle.shell_top.specs.Line.{Cuts, last_line}
-use Rattle.shell_top.specs.Machine.{Machine, Opens, Run}
+use Rattle.shell_top.specs.Machine.{Machine, Opens, Run, content}
 use Rattle.shell_top.specs.Reply.{texts_of}
 use Rattle.shell_top.specs.Rows.{row_file}
+use Rattle.shell_top.specs.Touched.{RefusedStays}
 use Rattle.shell_top.specs.declared.reply.Reply.{Reply}
 use Rattle.shell_top.specs.declared.status.Status.{Status}
 use Rattle.shell_top.specs.declared.status.Status.TheVariants.{Done, Stopped, Words, Memory, ReadFault, WriteFault, TooMuch}
@@ -87,8 +90,13 @@ pub record Ran (name : List ℕ) (stack0 stack1 : StackState) (in0 in1 : SourceS
   pub end : Machine
   pub opens : Opens stack0 name opening start
   pub went : Went status in0 in1 opening start end out0 out1
-  -- the rows of a session that goes on stand in the file, and on the device if nothing makes the file wild
+  -- the rows of a session that goes on stand in the file, and in what the layers show of the device unless the file is wild
   pub file : end.stopped ≡ false → IsTrue stack0.tells → (stack1.files name).now.bytes ≡ row_file end.rows
-  pub device : end.stopped ≡ false → IsTrue stack0.tells → (stack1.files name).wild ≡ false → (stack1.base name).now.bytes ≡ row_file end.rows
+  pub device : end.stopped ≡ false → IsTrue stack0.tells → (stack1.files name).wild ≡ false → content (through stack1.layers (present stack1.base) name) ≡ row_file end.rows
+  -- a file that is not empty is refused and stays as it was
+  pub refused : RefusedStays opening stack0 stack1 name
+  -- and names that are apart from this one keep their files in every run
+  pub others : IsTrue stack0.tells → OthersStay stack0.layers stack0.files stack1.files name
+  pub steady : Steady stack0 stack1
   -- a fault of the stack is counted
   pub faults : end.faults ≤ stack1.faults

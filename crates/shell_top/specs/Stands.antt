@@ -8,6 +8,7 @@ use Rattle.vfs_trait.specs.declared.fault.VfsFault.TheVariants.{Failed, Memory a
 use Rattle.vfs_model.specs.declared.level.Fid.{Fid}
 use Rattle.shell_top.specs.Rows.{Texts, row_file}
 use Rattle.shell_top.specs.Machine.{Machine, Opens}
+use Rattle.shell_top.specs.Touched.{OnlyTouches}
 use Rattle.shell_top.specs.declared.reply.Reply.{Reply}
 use Rattle.shell_top.specs.declared.reply.Reply.TheVariants.{Fault, MemoryStopped}
 use Rattle.shell_top.specs.declared.status.Status.{Status}
@@ -43,8 +44,9 @@ table_len (Some table) = length (row_file table.rows)
 abbrev pub rows_len : Session → ℕ
 rows_len session = table_len session.table
 
--- the table's file is the only open one, and holds the row file of the rows
+-- the table's file is the only open one, and holds the row file of the rows. No layer asks for whole pages
 pub record IsKept (table : Table) (stack : StackState) : Type 0 where
+  pub bare : stack.layers ≡ []
   pub opened : IsOpen stack table.file.0
   pub only : (fid : ℕ) → fid ≢ table.file.0 → stack.open_files fid ≡ None
   pub bytes : IsTrue stack.tells → (file_at stack table.file.0).now.bytes ≡ row_file table.rows
@@ -56,6 +58,12 @@ TableStands name (Some table) stack = (stack.open_files table.file.0 ≡ Some na
 
 pub record Stands (session : Session) (stack : StackState) : Type 0 where
   pub table : TableStands session.name session.table stack
+
+-- what lines leave of a session and its stack: its name, every file but that of the name, and of a stopped session all
+pub record Keeps (before after : Session) (old new : StackState) : Type 0 where
+  pub named : after.name ≡ before.name
+  pub touches : OnlyTouches before.name old new
+  pub stopped : before.table ≡ None → (after.table ≡ None) × (new ≡ old)
 
 -- what a fault of the stack is answered: Failed is a fault, anything else counts as want of memory
 abbrev pub reply_for : VfsFault → Reply

@@ -2,17 +2,17 @@
 
 ghost use Rattle.std.specs.Prelude.{◌≡◌, ℕ, ◌+◌, ◌*◌, ◌^◌, ◌≤◌, List, [], ◌∷◌, length, OnOk, OnErr, IsErrOf};
 ghost use Rattle.byte_base.specs.Count.{Rose};
-ghost use Rattle.vfs_trait.specs.State.{Steady};
 ghost use Rattle.shell_top.specs.Ends.{SinkSteady};
 ghost use Rattle.shell_top.specs.Line.{HasNoFeed, last_line};
 ghost use Rattle.shell_top.specs.Running.{Took, TookSome, AllRun, SomeRun, BytesRun, BytesStopped};
 ghost use Rattle.shell_top.specs.Status.{halt_status};
-ghost use Rattle.shell_top.specs.Stands.{machine, Stands, rows_len};
+ghost use Rattle.shell_top.specs.Stands.{machine, Stands, Keeps, rows_len};
 
 use crate::ends::{Sink, SinkFault};
 use crate::session::Session;
 use crate::status::Status;
 use std::alloc::Global;
+use vfs_model::looser_twice;
 use vfs_trait::Vfs;
 
 /// Why a run went no further.
@@ -50,8 +50,7 @@ pub fn run_bytes<V: Vfs, O: Sink>(
     requires no_feed { HasNoFeed line.old.items }
     requires room { 2 * rows_len session.old + 3 * (length line.old.items + length piece.now) ≤ 3 * 2 ^ 30 }
     ensures stands { Stands session.new (V.state stack.new) }
-    ensures named { session.new.name ≡ session.old.name }
-    ensures steady { Steady (V.state stack.old) (V.state stack.new) }
+    ensures keeps { Keeps session.old session.new (V.state stack.old) (V.state stack.new) }
     ensures sink { SinkSteady (O.state output.old) (O.state output.new) }
     ensures no_feed { OnOk result (HasNoFeed line.new.items) }
     ensures grows { OnOk result (2 * rows_len session.new + 3 * length line.new.items ≤ 2 * rows_len session.old + 3 * (length line.old.items + length piece.now)) }
@@ -59,6 +58,7 @@ pub fn run_bytes<V: Vfs, O: Sink>(
     ensures err { OnErr result (BytesStopped (machine session.old (V.state stack.old)) (machine session.new (V.state stack.new)) (O.state output.old) (O.state output.new) line.old.items piece.now) }
     ensures cause { IsErrOf result Halt.WriteFault → Rose (O.state output.old).faults (O.state output.new).faults }
 {
+    looser_twice();
     for b in piece {
         run_byte(alloc, session, stack, output, line, *b)?;
     }
@@ -78,8 +78,7 @@ fn run_byte<V: Vfs, O: Sink>(
     requires no_feed { HasNoFeed line.old.items }
     requires room { 2 * rows_len session.old + 3 * length line.old.items ≤ 3 * 2 ^ 30 }
     ensures stands { Stands session.new (V.state stack.new) }
-    ensures named { session.new.name ≡ session.old.name }
-    ensures steady { Steady (V.state stack.old) (V.state stack.new) }
+    ensures keeps { Keeps session.old session.new (V.state stack.old) (V.state stack.new) }
     ensures sink { SinkSteady (O.state output.old) (O.state output.new) }
     ensures no_feed { OnOk result (HasNoFeed line.new.items) }
     ensures grows { OnOk result (2 * rows_len session.new + 3 * length line.new.items ≤ 2 * rows_len session.old + 3 * (1 + length line.old.items)) }
@@ -109,8 +108,7 @@ pub fn run_last<V: Vfs, O: Sink>(
     requires stands { Stands session.old (V.state stack.old) }
     requires room { 2 * rows_len session.old + 3 * length line.now ≤ 3 * 2 ^ 30 }
     ensures stands { Stands session.new (V.state stack.new) }
-    ensures named { session.new.name ≡ session.old.name }
-    ensures steady { Steady (V.state stack.old) (V.state stack.new) }
+    ensures keeps { Keeps session.old session.new (V.state stack.old) (V.state stack.new) }
     ensures sink { SinkSteady (O.state output.old) (O.state output.new) }
     ensures ok { OnOk result (AllRun (machine session.old (V.state stack.old)) (machine session.new (V.state stack.new)) (O.state output.old) (O.state output.new) (last_line line.now)) }
     ensures err { OnErr result (SomeRun (machine session.old (V.state stack.old)) (machine session.new (V.state stack.new)) (O.state output.old) (O.state output.new) (last_line line.now)) }
@@ -133,8 +131,7 @@ fn run_line<V: Vfs, O: Sink>(
     requires stands { Stands session.old (V.state stack.old) }
     requires room { 2 * rows_len session.old + 3 * length line.now ≤ 3 * 2 ^ 30 }
     ensures stands { Stands session.new (V.state stack.new) }
-    ensures named { session.new.name ≡ session.old.name }
-    ensures steady { Steady (V.state stack.old) (V.state stack.new) }
+    ensures keeps { Keeps session.old session.new (V.state stack.old) (V.state stack.new) }
     ensures sink { SinkSteady (O.state output.old) (O.state output.new) }
     ensures grows { 2 * rows_len session.new ≤ 2 * rows_len session.old + 3 * length line.now }
     ensures ok { OnOk result (AllRun (machine session.old (V.state stack.old)) (machine session.new (V.state stack.new)) (O.state output.old) (O.state output.new) (line.now ∷ [])) }

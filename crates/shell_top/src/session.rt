@@ -1,21 +1,23 @@
 //! The session over the row file.
 
-ghost use Rattle.std.specs.Prelude.{◌≡◌, ℕ, ◌+◌, ◌*◌, ◌^◌, ◌≤◌, List, length, IsTrue, OnOk, IfOk, IfErr, IsErrOf, is_some, None, Some};
+ghost use Rattle.std.specs.Prelude.{◌≡◌, ℕ, ◌+◌, ◌*◌, ◌^◌, ◌≤◌, List, [], length, IsTrue, OnOk, IfOk, IfErr, IsErrOf, is_some, None, Some};
 ghost use Rattle.std.specs.FinMap as map;
 ghost use Rattle.vfs_model.specs.Name.{kind_of};
-ghost use Rattle.vfs_model.specs.Store.{FilesStay};
-ghost use Rattle.vfs_trait.specs.State.{NoneOpen, IsOpen, Steady, OpenStays, file_at};
+ghost use Rattle.vfs_model.specs.Effect.{NoLooser};
+ghost use Rattle.vfs_trait.specs.State.{NoneOpen, IsOpen, Steady, OpenStays, file_at, name_at};
+ghost use Rattle.vfs_trait.specs.Calls.{Leaves};
 ghost use Rattle.shell_top.specs.Rows.{row_file};
 ghost use Rattle.shell_top.specs.Machine.{Opens, Step};
-ghost use Rattle.shell_top.specs.Stands.{machine, Stands, IsKept, rows_len, OpensEmpty, HasCause, reply_for, end_status};
+ghost use Rattle.shell_top.specs.Touched.{OnlyTouches, RefusedStays};
+ghost use Rattle.shell_top.specs.Stands.{machine, Stands, Keeps, IsKept, rows_len, OpensEmpty, HasCause, reply_for, end_status};
 
 use crate::line::read_put;
 use crate::reply::Reply;
 use crate::rows::Rows;
 use crate::status::Status;
 use std::alloc::{AllocError, Global};
-use vfs_model::{Fid, Kind, Name};
-use vfs_trait::{Bytes, Vfs, VfsFault};
+use vfs_model::{Fid, Kind, Name, looser_twice};
+use vfs_trait::{Bytes, Vfs, VfsFault, separate_is_free};
 
 /// The most bytes that a text has.
 const MAX_TEXT: usize = 65536;
@@ -46,13 +48,16 @@ pub enum PutFault {
 impl Session {
     /// Opens the row file of a name, which has to be missing or empty.
     pub fn start<V: Vfs>(alloc: Global, stack: &mut V, name: &Name) -> (Session, Reply)
+        requires bare { (V.state stack.old).layers ≡ [] }
         requires closed { NoneOpen (V.state stack.old) }
         requires kind { kind_of name.now ≡ Kind.Main }
+        requires short { length name.now ≤ 64 }
         ensures opens { Opens (V.state stack.old) name.now result.1 (machine result.0 (V.state stack.new)) }
         ensures stands { Stands result.0 (V.state stack.new) }
         ensures named { result.0.name ≡ name.now }
         ensures empty { rows_len result.0 ≡ 0 }
-        ensures steady { Steady (V.state stack.old) (V.state stack.new) }
+        ensures touches { OnlyTouches name.now (V.state stack.old) (V.state stack.new) }
+        ensures refused { RefusedStays result.1 (V.state stack.old) (V.state stack.new) name.now }
     {
         match open_empty(stack, name) {
             Ok(file) => {
@@ -77,8 +82,7 @@ impl Session {
         requires room { 2 * rows_len self.old + 3 * length line.now ≤ 3 * 2 ^ 30 }
         ensures step { Step (machine self.old (V.state stack.old)) line.now result (machine self.new (V.state stack.new)) }
         ensures stands { Stands self.new (V.state stack.new) }
-        ensures named { self.new.name ≡ self.old.name }
-        ensures steady { Steady (V.state stack.old) (V.state stack.new) }
+        ensures keeps { Keeps self.old self.new (V.state stack.old) (V.state stack.new) }
         ensures grows { 2 * rows_len self.new ≤ 2 * rows_len self.old + 3 * length line.now }
     {
         let Some((rowid, text)) = read_put(line) else {
@@ -90,6 +94,7 @@ impl Session {
         if text.len() > MAX_TEXT {
             return Reply::TooLong;
         }
+        looser_twice();
         match table.put(alloc, stack, rowid, text) {
             Ok(true) => Reply::Replaced,
             Ok(false) => Reply::New,
@@ -117,7 +122,7 @@ impl Session {
         requires { Stands self (V.state stack.old) }
         ensures closed { NoneOpen (V.state stack.new) }
         ensures steady { Steady (V.state stack.old) (V.state stack.new) }
-        ensures files { IsTrue (V.state stack.old).tells → FilesStay (V.state stack.old).files (V.state stack.new).files }
+        ensures leaves { Leaves (V.state stack.old) (V.state stack.new) self.name NoLooser }
     {
         if let Some(table) = self.table {
             stack.close(table.file);
@@ -129,9 +134,13 @@ impl Session {
 fn open_empty<V: Vfs>(stack: &mut V, name: &Name) -> Result<Fid, Reply>
     requires closed { NoneOpen (V.state stack.old) }
     requires kind { kind_of name.now ≡ Kind.Main }
-    ensures steady { Steady (V.state stack.old) (V.state stack.new) }
+    requires short { length name.now ≤ 64 }
+    ensures touches { OnlyTouches name.now (V.state stack.old) (V.state stack.new) }
     ensures opens { OpensEmpty (V.state stack.old) (V.state stack.new) name.now result }
+    ensures refused { IfErr result (λ reply. RefusedStays reply (V.state stack.old) (V.state stack.new) name.now) }
 {
+    separate_is_free();
+    looser_twice();
     let file = match stack.open(name, Kind::Main) {
         Ok(file) => file,
         Err(fault) => return Err(reply_for(fault)),
@@ -172,7 +181,7 @@ impl Table {
         requires kept { IsKept self.old (V.state stack.old) }
         requires short { length text.now ≤ 65536 }
         requires room { length (row_file (map.insert self.old.rows rowid text.now)) ≤ 2 ^ 32 }
-        ensures steady { Steady (V.state stack.old) (V.state stack.new) }
+        ensures touches { OnlyTouches (name_at (V.state stack.old) self.old.file.0) (V.state stack.old) (V.state stack.new) }
         ensures opens { OpenStays (V.state stack.old) (V.state stack.new) }
         ensures file { self.new.file ≡ self.old.file }
         ensures replaced { IfOk result (λ replaced. replaced ≡ is_some (map.get self.old.rows rowid)) }
@@ -199,13 +208,15 @@ impl Table {
 
 /// Makes these the bytes of a file, and syncs it.
 fn rewrite<V: Vfs>(stack: &mut V, file: Fid, bytes: &[u8]) -> Result<(), VfsFault>
+    requires bare { (V.state stack.old).layers ≡ [] }
     requires is_open { IsOpen (V.state stack.old) file.0 }
     requires room { length bytes.now ≤ 2 ^ 32 }
-    ensures steady { Steady (V.state stack.old) (V.state stack.new) }
+    ensures touches { OnlyTouches (name_at (V.state stack.old) file.0) (V.state stack.old) (V.state stack.new) }
     ensures opens { OpenStays (V.state stack.old) (V.state stack.new) }
     ensures ok { OnOk result (IsTrue (V.state stack.old).tells → (file_at (V.state stack.new) file.0).now.bytes ≡ bytes.now) }
     ensures cause { IfErr result (HasCause (V.state stack.old).faults (V.state stack.new).faults) }
 {
+    looser_twice();
     stack.write(file, 0, bytes)?;
     stack.cut(file, bytes.len() as u64)?;
     stack.sync(file)

@@ -2,10 +2,10 @@
 
 ghost use Rattle.std.specs.Prelude.{◌≡◌, ℕ, ◌+◌, ◌*◌, ◌≤◌, List, [], length, take, map, string_bytes, IfOk, OnErr, IsTrue};
 ghost use Rattle.byte_base.specs.Count.{Rose};
-ghost use Rattle.vfs_trait.specs.State.{NoneOpen, Steady};
+ghost use Rattle.vfs_trait.specs.State.{NoneOpen};
 ghost use Rattle.shell_top.specs.Ends.{SourceSteady, Gives};
 ghost use Rattle.shell_top.specs.Ran.{Ran, Went};
-ghost use Rattle.shell_top.specs.Stands.{machine, Stands, rows_len};
+ghost use Rattle.shell_top.specs.Stands.{machine, Stands, Keeps, rows_len};
 ghost use Rattle.shell_top.specs.Words.{AreWords, AreRefused, layers_of};
 
 use crate::ends::{ReadFailed, Sink, Source};
@@ -15,6 +15,7 @@ use crate::session::Session;
 use crate::status::Status;
 use crate::words::read_words;
 use std::alloc::Global;
+use vfs_model::looser_twice;
 use vfs_trait::Vfs;
 
 /// The most bytes that a run takes from the source: 1 GiB.
@@ -43,6 +44,7 @@ pub fn vfsh_run<V: Vfs, I: Source, O: Sink>(
     let Some(name) = read_words(words) else {
         return Status::Words;
     };
+    looser_twice();
     let (mut session, opening) = Session::start(alloc, stack, &name);
     let status = answer_all(alloc, &mut session, stack, input, output, opening);
     session.close(stack);
@@ -62,13 +64,13 @@ fn answer_all<V: Vfs, I: Source, O: Sink>(
     requires stands { Stands session.old (V.state stack.old) }
     requires empty { rows_len session.old ≡ 0 }
     ensures stands { Stands session.new (V.state stack.new) }
-    ensures named { session.new.name ≡ session.old.name }
-    ensures steady { Steady (V.state stack.old) (V.state stack.new) }
+    ensures keeps { Keeps session.old session.new (V.state stack.old) (V.state stack.new) }
     ensures went { Went result (I.state input.old) (I.state input.new) opening (machine session.old (V.state stack.old)) (machine session.new (V.state stack.new)) (O.state output.old) (O.state output.new) }
 {
     if let Err(halt) = write_all(output, opening.text()) {
         return halt.status();
     }
+    looser_twice();
     let mut line = Vec::new(alloc);
     let mut buf = [0; PIECE];
     let mut taken = 0;

@@ -1,9 +1,8 @@
-use Rattle.std.proofs.Common.{◌≡◌, ◌+◌, ◌*◌, ◌≤◌, length, take}
-use Rattle.vfs_trait.specs.State.{Steady}
+use Rattle.std.proofs.Common.{◌+◌, ◌*◌, ◌≤◌, length, take}
 use Rattle.shell_top.specs.Ends.{SinkSteady}
 use Rattle.shell_top.specs.Line.{HasNoFeed}
 use Rattle.shell_top.specs.Running.{BytesRun}
-use Rattle.shell_top.specs.Stands.{machine, Stands, rows_len}
+use Rattle.shell_top.specs.Stands.{machine, Stands, Keeps, rows_len}
 use Rattle.shell_top.proofs.run.run_bytes.Given as goal
 
 abbrev pub invariant-loop-b : goal.invariant-loop-b
@@ -12,8 +11,7 @@ invariant-loop-b g l =
     let of_sink = g.O.Sink.state in
     record {
       stands : Stands l.session (of_stack l.stack);
-      named : l.session.name ≡ l.initial.session.name;
-      steady : Steady (of_stack l.initial.stack) (of_stack l.stack);
+      keeps : Keeps l.initial.session l.session (of_stack l.initial.stack) (of_stack l.stack);
       sink : SinkSteady (of_sink l.initial.output) (of_sink l.output);
       no_feed : HasNoFeed l.line.items;
       grows : 2 * rows_len l.session + 3 * length l.line.items ≤ 2 * rows_len l.initial.session + 3 * (length l.initial.line.items + l.b-index);

@@ -1,4 +1,4 @@
-use Rattle.std.proofs.Common.{ℕ, List, [], drop, ◌++◌, length-take, rules, sym, subst, refl, ap, ◌∙◌, arith, Err}
+use Rattle.std.proofs.Common.{ℕ, List, [], drop, ◌++◌, length-take, rules, sym, subst, ap, arith, Err}
 use Rattle.std.proofs.lemmas.List.{take-append-le}
 use Rattle.shell_top.specs.Line.{last_line}
 use Rattle.shell_top.specs.Ends.{Gives}
@@ -6,7 +6,8 @@ use Rattle.shell_top.specs.Reply.{text_of}
 use Rattle.shell_top.specs.Running.{AllRun, SomeRun, BytesRun, BytesStopped}
 use Rattle.shell_top.specs.Stands.{machine, end_status}
 use Rattle.shell_top.specs.Status.{halt_status}
-use Rattle.shell_top.proofs.RunLemmas.{took_as, took_some_as, steady_on, steady_same}
+use Rattle.shell_top.proofs.TouchLemmas.{keeps_same, keeps_on}
+use Rattle.shell_top.proofs.RunLemmas.{took_as, took_some_as}
 use Rattle.shell_top.proofs.ReadLemmas.{ReadOn, read_begin, read_more, opening_cut, piece_cut, last_cut, ended_went, went_by, no_feed_in_none, nil_length}
 use Rattle.shell_top.proofs.top.answer_all.Goals as goal
 
@@ -29,8 +30,7 @@ loop-taken-init g c =
     let out1 = g.O.Sink.state c.write_all.new.output in
     record {
       stands = c.requires.stands;
-      named = refl;
-      steady = steady_same (g.V.Vfs.state c.args.stack.now);
+      keeps = keeps_same c.args.session.now (g.V.Vfs.state c.args.stack.now);
       no_feed = no_feed_in_none c.new-line.result.items c.new-line.ensures.items;
       room = omega (arith, c.requires.empty, nil_length c.new-line.result.items c.new-line.ensures.items);
       within = omega arith;
@@ -99,8 +99,8 @@ loop-taken-preserved g c =
     let Runs : List ℕ → Type 0 = λ piece. BytesRun mid end (sink c.loop-taken.output) (sink c.run_bytes.new.output) c.loop-taken.line.items piece c.run_bytes.new.line.items in
     record {
       stands = c.run_bytes.ensures.stands;
-      named = c.run_bytes.ensures.named ∙ c.loop-taken.invariant.named;
-      steady = steady_on (of_stack c.args.stack.now) (of_stack c.loop-taken.stack) (of_stack c.run_bytes.new.stack) c.loop-taken.invariant.steady c.run_bytes.ensures.steady;
+      keeps = keeps_on c.looser_twice.ensures c.args.session.now c.loop-taken.session c.run_bytes.new.session (of_stack c.args.stack.now) (of_stack c.loop-taken.stack)
+          (of_stack c.run_bytes.new.stack) c.loop-taken.invariant.keeps c.run_bytes.ensures.keeps;
       no_feed = c.in_default-run_bytes.ensures.no_feed;
       room = omega (arith, c.in_default-run_bytes.ensures.grows, c.loop-taken.invariant.room, length-take c.in-Ok.count (c.read.new.buf ++ drop c.min-room.result c.loop-taken.buf));
       within = search rules;

@@ -1,8 +1,7 @@
-use Rattle.std.proofs.Common.{◌-◌, ◌≡◌, ◌+◌, ◌*◌, ◌≤◌, length}
-use Rattle.vfs_trait.specs.State.{Steady}
+use Rattle.std.proofs.Common.{◌-◌, ◌+◌, ◌*◌, ◌≤◌, length}
 use Rattle.shell_top.specs.Line.{HasNoFeed}
 use Rattle.shell_top.proofs.ReadLemmas.{ReadOn}
-use Rattle.shell_top.specs.Stands.{machine, Stands, rows_len}
+use Rattle.shell_top.specs.Stands.{machine, Stands, Keeps, rows_len}
 use Rattle.shell_top.proofs.top.answer_all.Given as goal
 
 abbrev pub invariant-loop-taken : goal.invariant-loop-taken
@@ -12,8 +11,7 @@ invariant-loop-taken g l =
     let sink = g.O.Sink.state in
     record {
       stands : Stands l.session (of_stack l.stack);
-      named : l.session.name ≡ l.fn.session.name;
-      steady : Steady (of_stack l.fn.stack) (of_stack l.stack);
+      keeps : Keeps l.fn.session l.session (of_stack l.fn.stack) (of_stack l.stack);
       no_feed : HasNoFeed l.line.items;
       room : 2 * rows_len l.session + 3 * length l.line.items ≤ 3 * l.taken;
       within : l.taken ≤ 1073741824;

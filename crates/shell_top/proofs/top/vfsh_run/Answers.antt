@@ -12,8 +12,8 @@ returns-clause-ran g c name words =
     Ran n (stack c.args.stack.now) (stack c.close.new.stack) (source c.args.input.now) (source c.answer_all-status.new.input) (sink c.args.output.now)
     (sink c.answer_all-status.new.output) c.answer_all-status.result in
     subst P (one_name _ c.in-Some.name name c.in-Some.ensures words)
-    (ran_of c.in-Some.name (stack c.args.stack.now) (stack c.start-session.new.stack) (stack c.answer_all-status.new.stack) (stack c.close.new.stack)
-    c.start-session.result.0 c.answer_all-status.new.session (source c.args.input.now) (source c.answer_all-status.new.input)
+    (ran_of c.looser_twice.ensures c.in-Some.name (stack c.args.stack.now) (stack c.start-session.new.stack) (stack c.answer_all-status.new.stack)
+    (stack c.close.new.stack) c.start-session.result.0 c.answer_all-status.new.session (source c.args.input.now) (source c.answer_all-status.new.input)
     (sink c.args.output.now) (sink c.answer_all-status.new.output) c.answer_all-status.result c.start-session.result.1
-    c.start-session.ensures.named c.answer_all-status.ensures.named c.requires.layers c.start-session.ensures.opens c.answer_all-status.ensures.went
-    c.answer_all-status.ensures.stands c.start-session.ensures.steady c.answer_all-status.ensures.steady c.close.ensures.steady c.close.ensures.files c.view_holds.ensures)
+    c.start-session.ensures.named c.start-session.ensures.opens c.answer_all-status.ensures.went c.answer_all-status.ensures.stands
+    c.start-session.ensures.touches c.start-session.ensures.refused c.answer_all-status.ensures.keeps c.close.ensures.steady c.close.ensures.leaves c.view_holds.ensures.stands)

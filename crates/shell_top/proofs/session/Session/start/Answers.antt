@@ -8,6 +8,7 @@ returns-in-Ok-clause-stands g c = record {
   table = (
     c.in-Ok.ensures.opens.0,
     record {
+      bare = c.open_empty.ensures.touches.steady.layers ∙ c.requires.bare;
       opened = is_open _ _ c.in-Ok.ensures.opens.0;
       only = c.in-Ok.ensures.opens.1;
       bytes = λ tells.

@@ -1,20 +1,16 @@
-use Rattle.std.proofs.Common.{◌≡◌, ℕ, ◌≤◌, Bool, true, false, List, [], length, IsTrue, refl, sym, ap, subst, ◌∙◌, arith, Some, None, unwrap_or}
+use Rattle.std.proofs.Common.{◌≡◌, ℕ, ◌≤◌, List, [], length, IsTrue, refl, sym, ap, subst, ◌∙◌, arith, None, unwrap_or}
 use Rattle.vfs_model.specs.File.{FileState}
-use Rattle.vfs_model.specs.Effect.{NoLooser, Opened}
+use Rattle.vfs_model.specs.Effect.{NoLooser}
 use Rattle.vfs_model.specs.Store.{OthersStay}
 use Rattle.vfs_model.specs.Laws.{LooserTwice}
 use Rattle.vfs_model.specs.declared.layer.Layer.{Layer}
 use Rattle.vfs_model.specs.declared.name.Kind.{Kind}
 use Rattle.vfs_model.specs.declared.name.Kind.TheVariants.{Main, Journal, Super}
 use Rattle.vfs_trait.specs.State.{StackState, Steady, OpenStays, NoneOpen, IsFree, name_at}
-use Rattle.vfs_trait.specs.Calls.{Leaves, Takes, MayWrite, MayCutTo, checked}
+use Rattle.vfs_trait.specs.Calls.{MayWrite, MayCutTo, checked}
 use Rattle.vfs_trait.specs.Free.{SeparateIsFree}
-use Rattle.vfs_trait.specs.declared.fault.VfsFault.{VfsFault}
-use Rattle.vfs_trait.specs.declared.fault.VfsFault.TheVariants.{Failed, Memory as NoMemory, Busy, Full, BadPage}
-use Rattle.shell_top.specs.Touched.{OnlyTouches, RefusedStays}
-use Rattle.shell_top.specs.Stands.{Keeps, reply_for}
-use Rattle.shell_top.specs.declared.reply.Reply.{Reply}
-use Rattle.shell_top.specs.declared.session.Table.{Table}
+use Rattle.shell_top.specs.Touched.{OnlyTouches}
+use Rattle.shell_top.specs.Stands.{Keeps}
 use Rattle.shell_top.specs.declared.session.Session.{Session}
 
 pub no_looser_same : (file : FileState) → NoLooser file file

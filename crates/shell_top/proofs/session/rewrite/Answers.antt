@@ -1,4 +1,4 @@
-use Rattle.std.proofs.Common.{◌∙◌, refl}
+use Rattle.std.proofs.Common.{◌∙◌}
 use Rattle.vfs_trait.specs.State.{name_at}
 use Rattle.shell_top.proofs.TouchLemmas.{touches_next, may_write, may_cut}
 use Rattle.shell_top.proofs.SessionLemmas.{always, rewritten_at}

@@ -39,8 +39,8 @@ tail_of bytes = drop (length bytes - mark_size) bytes
 abbrev pub start_of : List ℕ → Option ℕ
 start_of bytes = mark_in (tail_of bytes) (length bytes)
 
--- how a file is opened: as a database, which it is or, empty, will be; or as one with a database behind other content,
--- from a place up to the mark, or, where there is no mark yet, from the next multiple of 4096 on
+-- how a file is opened: as a database, which it is or, empty, will be; as one with a database behind other content, from a
+-- place up to the mark; or as one of so many bytes without a mark, where a database is to begin at the next multiple of 4096
 pub data Placed : Type 0 where
   Ordinary : Placed
   Behind : ℕ → Placed
@@ -52,7 +52,7 @@ next_start len = (len + 4095) - (len + 4095) % 4096
 
 abbrev pub placed_by : List ℕ → Option ℕ → Placed
 placed_by bytes (Some start) = Behind start
-placed_by bytes None = if has_header bytes then Ordinary else Fresh (next_start (length bytes))
+placed_by bytes None = if has_header bytes then Ordinary else Fresh (length bytes)
 
 -- the first of the four rules that fits decides
 abbrev pub placed : List ℕ → Placed
@@ -62,4 +62,4 @@ placed bytes = if nat_eq (length bytes) 0 || nat_lt greatest_file (length bytes)
 abbrev pub shown_at : Placed → List ℕ → List ℕ
 shown_at Ordinary bytes = bytes
 shown_at (Behind start) bytes = take (length bytes - mark_size - start) (drop start bytes)
-shown_at (Fresh start) bytes = []
+shown_at (Fresh len) bytes = []

@@ -3,23 +3,23 @@
 use Rattle.std.specs.Prelude.{ℕ, zero, suc, ◌+◌, ◌-◌, ◌*◌, min, max, Bool, true, false, ◌&&◌, not, nat_eq, nat_le, nat_lt, if◌then◌else◌, List, [], ◌∷◌, ◌++◌, length, Option, Some, None}
 use Rattle.std.specs.Char.{is_ascii_digit}
 use Rattle.std.specs.List.{list_all, starts_with}
-use Rattle.vfs_model.specs.File.{Found}
 use Rattle.vfs_model.specs.Store.{Files}
-use Rattle.vfs_model.specs.Mark.{mark_size, Placed, Ordinary, Behind, Fresh, placed}
+use Rattle.vfs_model.specs.Mark.{mark_size, Placed, Ordinary, Behind, Fresh, next_start, placed}
 use Rattle.vfs_model.specs.Glob.{matches}
 use Rattle.vfs_model.specs.View.{through, chunk_name, most_chunks}
 use Rattle.vfs_model.specs.declared.layer.Group.{Group}
 use Rattle.vfs_model.specs.declared.layer.Layer.{Layer}
 use Rattle.vfs_model.specs.declared.layer.Layer.TheVariants.{Trace, Cksum, Append, Mux, Quota}
 
--- an open database file at one layer: its name there, how long the layer shows it, and, at an append layer, where it
--- stands in its file
+-- an open database file at a quota or append layer: its name there, how long the layer shows it, and, at an append layer,
+-- where it stands in its file
 pub record OpenFile : Type 0 where
   pub name : List ℕ
   pub len : ℕ
   pub place : Placed
 
--- those of a layer, and those of each layer, the top one first
+-- those of a layer, and those of each quota and append layer, the top one first. Every other layer keeps no lengths of its
+-- own: it shows a file as long as the layer below does, or, a multiplexor, cuts a write whatever the lengths are
 abbrev pub OpenFiles : Type 0
 OpenFiles = List OpenFile
 
@@ -48,7 +48,7 @@ reached name end (file ∷ more) =
 abbrev pub settled : Placed → Placed
 settled Ordinary = Ordinary
 settled (Behind start) = Behind start
-settled (Fresh start) = Behind start
+settled (Fresh len) = Behind (next_start len)
 
 abbrev pub settled_at : List ℕ → OpenFiles → OpenFiles
 settled_at name [] = []
@@ -109,22 +109,25 @@ or_full (Some full) passing = IsFull full.0 full.1
 abbrev pub append_limit : ℕ
 append_limit = 1000013824
 
--- how long the file is that an append layer keeps a database in, by the layer below, or by the database where that is last
-abbrev pub whole_len : List ℕ → OpenFiles → Lengths → ℕ
-whole_len name files [] = len_at name files
-whole_len name files (below ∷ more) = len_at name below
-
--- a write of a range below an append layer: where it begins, and where it ends. One that grows begins at the end of the
--- file where the database is to begin behind that, and ends with the mark
-abbrev pub shifted : Placed → ℕ → ℕ → ℕ → ℕ → ℕ × ℕ
-shifted Ordinary whole len off end = (off, end)
-shifted (Behind start) whole len off end = (start + off, if nat_lt len end then start + end + mark_size else start + end)
-shifted (Fresh start) whole len off end = (min whole (start + off), start + end + mark_size)
+-- a write of a range below an append layer: where it begins, and where it ends. One that grows ends with the mark, and the
+-- first one begins at the end of what stood in the file
+abbrev pub shifted : Placed → ℕ → ℕ → ℕ → ℕ × ℕ
+shifted Ordinary len off end = (off, end)
+shifted (Behind start) len off end = (start + off, if nat_lt len end then start + end + mark_size else start + end)
+shifted (Fresh whole) len off end = (whole, next_start whole + end + mark_size)
 
 abbrev pub append_says : Placed → ℕ → ℕ → ℕ × ℕ → Option (ℕ × ℕ)
 append_says Ordinary len end range = None
 append_says (Behind start) len end range = if nat_lt len end && nat_lt append_limit range.1 then Some (range.1, append_limit) else None
-append_says (Fresh start) len end range = if nat_lt len end && nat_lt append_limit range.1 then Some (range.1, append_limit) else None
+append_says (Fresh whole) len end range = if nat_lt len end && nat_lt append_limit range.1 then Some (range.1, append_limit) else None
+
+-- the open files of an append layer after a write that grows, or does not
+abbrev pub placed_then : Bool → List ℕ → OpenFiles → OpenFiles
+placed_then true name files = settled_at name files
+placed_then false name files = files
+
+abbrev pub append_range : List ℕ → OpenFiles → ℕ → ℕ → ℕ × ℕ
+append_range name files off end = shifted (place_at name files) (len_at name files) off end
 
 -- the parts of a range in so many chunks at most, one write a chunk in rising order, each with the lengths before it
 -- the writes that follow one, by the lengths that it left
@@ -140,39 +143,24 @@ by_chunks below (suc left) chunk name number off end lengths =
     else then_pass (below lengths (chunk_name name number) (max off (chunk * number) - chunk * number) (min end (chunk * (number + 1)) - chunk * number))
     (λ after. by_chunks below left chunk name (suc number) off end after))
 
--- a write of a database from a place up to an end, by the limits of each quota layer's groups and the lengths at each layer
+-- a write of a database from a place up to an end, by the limits of each quota layer's groups and the lengths
 unfoldable pub pass : List Layer → List (List ℕ) → Lengths → List ℕ → ℕ → ℕ → Passing
 pass [] limits lengths name off end = Passes lengths
-pass (Trace ∷ below) limits [] name off end = Passes []
-pass (Cksum page ∷ below) limits [] name off end = Passes []
+pass (Trace ∷ below) limits lengths name off end = pass below limits lengths name off end
+pass (Cksum page ∷ below) limits lengths name off end = pass below limits lengths name off end
+pass (Mux chunk ∷ below) limits lengths name off end =
+    by_chunks (λ after chunk_of from to. pass below limits after chunk_of from to) most_chunks chunk name 0 off end lengths
 pass (Append ∷ below) limits [] name off end = Passes []
-pass (Mux chunk ∷ below) limits [] name off end = Passes []
-pass (Quota groups ∷ below) limits [] name off end = Passes []
-pass (Trace ∷ below) limits (files ∷ lengths) name off end = on_top (reached name end files) (pass below limits lengths name off end)
-pass (Cksum page ∷ below) limits (files ∷ lengths) name off end = on_top (reached name end files) (pass below limits lengths name off end)
 pass (Append ∷ below) limits (files ∷ lengths) name off end =
-    or_full (append_says (place_at name files) (len_at name files) end (range (place_at name files)))
-    (on_top (reached name end (grown (nat_lt (len_at name files) end))) (pass below limits lengths name (range (place_at name files)).0 (range (place_at name files)).1)) where
-      range : Placed → ℕ × ℕ
-      range place = shifted place (whole_len name files lengths) (len_at name files) off end
-
-      grown : Bool → OpenFiles
-      grown true = settled_at name files
-      grown false = files
-pass (Mux chunk ∷ below) limits (files ∷ lengths) name off end =
-    on_top (reached name end files) (by_chunks (λ after chunk_of from to. pass below limits after chunk_of from to) most_chunks chunk name 0 off end lengths)
+    or_full (append_says (place_at name files) (len_at name files) end (append_range name files off end))
+    (on_top (reached name end (placed_then (nat_lt (len_at name files) end) name files))
+    (pass below limits lengths name (append_range name files off end).0 (append_range name files off end).1))
+pass (Quota groups ∷ below) limits [] name off end = Passes []
 pass (Quota groups ∷ below) [] (files ∷ lengths) name off end = on_top (reached name end files) (pass below [] lengths name off end)
 pass (Quota groups ∷ below) (own ∷ limits) (files ∷ lengths) name off end =
     or_full (quota_says groups own files name end (group_of groups name)) (on_top (reached name end files) (pass below limits lengths name off end))
 
--- the lengths that views give: of a name at each layer, and of its chunks below a multiplexor
-
-abbrev pub place_in : Layer → Found → Placed
-place_in Trace f = Ordinary
-place_in (Cksum page) f = Ordinary
-place_in Append f = placed f.bytes
-place_in (Mux chunk) f = Ordinary
-place_in (Quota groups) f = Ordinary
+-- the lengths that views give: of a name at each of these layers, and of its chunks below a multiplexor
 
 -- the names of the chunks of a file that are there, up to the end of the file
 pub chunk_names : ℕ → ℕ → Files → List ℕ → ℕ → List (List ℕ)
@@ -180,32 +168,36 @@ chunk_names zero chunk files name number = []
 chunk_names (suc left) chunk files name number =
     if (files (chunk_name name number)).there then chunk_name name number ∷ (if nat_lt (length (files (chunk_name name number)).bytes) chunk then [] else chunk_names left chunk files name (suc number)) else []
 
--- the names below a layer of what it shows by these names
-abbrev pub names_below : Layer → Files → List (List ℕ) → List (List ℕ)
-names_below (Mux chunk) files [] = []
-names_below (Mux chunk) files (name ∷ more) = chunk_names most_chunks chunk files name 0 ++ names_below (Mux chunk) files more
-names_below Trace files names = names
-names_below (Cksum page) files names = names
-names_below Append files names = names
-names_below (Quota groups) files names = names
+abbrev pub all_chunks : ℕ → Files → List (List ℕ) → List (List ℕ)
+all_chunks chunk files [] = []
+all_chunks chunk files (name ∷ more) = chunk_names most_chunks chunk files name 0 ++ all_chunks chunk files more
 
-abbrev pub open_at : Layer → Files → Files → List (List ℕ) → OpenFiles
-open_at layer shown below [] = []
-open_at layer shown below (name ∷ more) = record { name = name; len = length (shown name).bytes; place = place_in layer (below name) } ∷ open_at layer shown below more
+-- the open files of an append layer, and those of a quota layer, as files below it and what it shows of them are
+abbrev pub appended_files : Files → Files → List (List ℕ) → OpenFiles
+appended_files shown below [] = []
+appended_files shown below (name ∷ more) =
+    record { name = name; len = length (shown name).bytes; place = placed (below name).bytes } ∷ appended_files shown below more
+
+abbrev pub counted_files : Files → List (List ℕ) → OpenFiles
+counted_files shown [] = []
+counted_files shown (name ∷ more) = record { name = name; len = length (shown name).bytes; place = Ordinary } ∷ counted_files shown more
 
 abbrev pub lengths_shown : List Layer → Files → List (List ℕ) → Lengths
 lengths_shown [] files names = []
-lengths_shown (layer ∷ below) files names =
-    open_at layer (through (layer ∷ below) files) (through below files) names ∷ lengths_shown below files (names_below layer (through below files) names)
+lengths_shown (Trace ∷ below) files names = lengths_shown below files names
+lengths_shown (Cksum page ∷ below) files names = lengths_shown below files names
+lengths_shown (Mux chunk ∷ below) files names = lengths_shown below files (all_chunks chunk (through below files) names)
+lengths_shown (Append ∷ below) files names = appended_files (through (Append ∷ below) files) (through below files) names ∷ lengths_shown below files names
+lengths_shown (Quota groups ∷ below) files names = counted_files (through below files) names ∷ lengths_shown below files names
 
--- those of one file among the lengths at each layer: of its own name, and below a multiplexor of this followed by digits
+-- those of one file among the lengths: of its own name, and below a multiplexor of this followed by digits
+abbrev pub rest_behind : ℕ → List ℕ → List ℕ
+rest_behind zero rest = rest
+rest_behind (suc n) [] = []
+rest_behind (suc n) (b ∷ rest) = rest_behind n rest
+
 abbrev pub is_chunk_of : List ℕ → List ℕ → Bool
-is_chunk_of name [] = list_all is_ascii_digit []
-is_chunk_of name other = starts_with nat_eq other name && list_all is_ascii_digit (behind (length name) other) where
-  behind : ℕ → List ℕ → List ℕ
-  behind zero rest = rest
-  behind (suc n) [] = []
-  behind (suc n) (b ∷ rest) = behind n rest
+is_chunk_of name other = starts_with nat_eq other name && list_all is_ascii_digit (rest_behind (length name) other)
 
 abbrev pub only : (List ℕ → Bool) → OpenFiles → OpenFiles
 only test [] = []
@@ -217,9 +209,10 @@ each_only test (files ∷ more) = only test files ∷ each_only test more
 
 abbrev pub of_file : List Layer → List ℕ → Lengths → Lengths
 of_file [] name lengths = []
-of_file (layer ∷ below) name [] = []
-of_file (Mux chunk ∷ below) name (files ∷ lengths) = only (same_name name) files ∷ each_only (is_chunk_of name) lengths
-of_file (Trace ∷ below) name (files ∷ lengths) = only (same_name name) files ∷ of_file below name lengths
-of_file (Cksum page ∷ below) name (files ∷ lengths) = only (same_name name) files ∷ of_file below name lengths
+of_file (Trace ∷ below) name lengths = of_file below name lengths
+of_file (Cksum page ∷ below) name lengths = of_file below name lengths
+of_file (Mux chunk ∷ below) name lengths = each_only (is_chunk_of name) lengths
+of_file (Append ∷ below) name [] = []
 of_file (Append ∷ below) name (files ∷ lengths) = only (same_name name) files ∷ of_file below name lengths
+of_file (Quota groups ∷ below) name [] = []
 of_file (Quota groups ∷ below) name (files ∷ lengths) = only (same_name name) files ∷ of_file below name lengths

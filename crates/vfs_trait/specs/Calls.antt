@@ -287,11 +287,12 @@ totals_from groups number (limit ∷ more) files = (total_of groups number files
 -- those of the quota layer of this number, if there is one
 abbrev pub totals_at : ℕ → List Layer → List (List ℕ) → Lengths → Option (List (ℕ × ℕ))
 totals_at number [] limits lengths = None
-totals_at number (layer ∷ below) limits [] = None
-totals_at number (Trace ∷ below) limits (files ∷ lengths) = totals_at number below limits lengths
-totals_at number (Cksum page ∷ below) limits (files ∷ lengths) = totals_at number below limits lengths
+totals_at number (Trace ∷ below) limits lengths = totals_at number below limits lengths
+totals_at number (Cksum page ∷ below) limits lengths = totals_at number below limits lengths
+totals_at number (Mux chunk ∷ below) limits lengths = totals_at number below limits lengths
+totals_at number (Append ∷ below) limits [] = None
 totals_at number (Append ∷ below) limits (files ∷ lengths) = totals_at number below limits lengths
-totals_at number (Mux chunk ∷ below) limits (files ∷ lengths) = totals_at number below limits lengths
+totals_at number (Quota groups ∷ below) limits [] = None
 totals_at number (Quota groups ∷ below) [] (files ∷ lengths) = None
 totals_at zero (Quota groups ∷ below) (own ∷ limits) (files ∷ lengths) = None
 totals_at (suc zero) (Quota groups ∷ below) (own ∷ limits) (files ∷ lengths) = Some (totals_from groups 0 own files)

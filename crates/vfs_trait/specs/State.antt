@@ -13,7 +13,7 @@ use Rattle.vfs_model.specs.declared.layer.Layer.TheVariants.{Trace, Cksum, Appen
 use Rattle.vfs_trait.specs.Log.{Ring}
 
 -- A stack: whether it tells the content of its files, the files as seen from above, those of its device, its layers, the
--- top one first; for each quota layer the present limits of its groups; the lengths of the open databases at each layer;
+-- top one first; for each quota layer the present limits of its groups; the lengths of the open databases at each layer that counts them;
 -- the names of the open files by their numbers; of which of them a write or cut went wrong since it was opened, so that
 -- the lengths say nothing of it; the levels of the owners at each of them; which open names are databases that an append
 -- layer shows whole, so that a write can make them wild; how often the device has failed; and the calls that each trace

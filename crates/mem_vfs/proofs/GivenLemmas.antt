@@ -1,9 +1,9 @@
 -- Files that were made of names and bytes.
-use Rattle.std.proofs.Common.{◌≡◌, ℕ, Bool, true, false, cond, List, [], ◌∷◌, length, replicate, refl, ap, ◌∙◌, sym, subst, arith, Option, Some, find}
+use Rattle.std.proofs.Common.{◌≡◌, ℕ, Bool, true, false, cond, List, [], ◌∷◌, length, replicate, refl, ap, ◌∙◌, Option, Some, find}
 use Rattle.std.specs.Option.{option_map_or}
 use Rattle.std.specs.Str.{bytes_eq}
 use Rattle.std.proofs.lemmas.List.{length-replicate}
-use Rattle.vfs_model.specs.File.{FileState, absent, IsSettled}
+use Rattle.vfs_model.specs.File.{FileState, absent}
 use Rattle.mem_vfs.specs.declared.file.File.{File}
 use Rattle.mem_vfs.specs.Memory.{is_named, store, file_state, mark_at}
 use Rattle.mem_vfs.specs.Given.{settled, given_state, Has}
@@ -48,13 +48,6 @@ made_settled given f made =
     ∙ ap (λ b. state_of given.1 (replicate (length given.1) false) (length given.1) b f.sure) made.there
     ∙ ap (λ b. state_of given.1 (replicate (length given.1) false) (length given.1) true b) made.sure
     ∙ parts_settled given.1
-
-is_settled : (bytes : List ℕ) → IsSettled (settled bytes)
-is_settled bytes = record { tame = refl; sure = refl; content = record { shortest = omega arith; longest = omega arith; synced = λ place less. refl } }
-
--- nothing of such a file is unsettled
-pub made_is_settled : (given : List ℕ × List ℕ) (f : File) → IsMade given f → IsSettled (file_state f)
-made_is_settled given f made = subst IsSettled (sym (made_settled given f made)) (is_settled given.1)
 
 chosen : (b : Bool) (f : File) (files : Option File) (given : Option (List ℕ × List ℕ)) (g : List ℕ × List ℕ) → file_state f ≡ settled g.1
     → option_map_or file_state files absent ≡ option_map_or (λ file. settled file.1) given absent

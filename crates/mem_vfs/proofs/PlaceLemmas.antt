@@ -1,4 +1,4 @@
-use Rattle.std.proofs.Common.{◌≡◌, ℕ, zero, suc, ◌+◌, ◌<◌, true, false, cond, List, [], ◌∷◌, length, drop, get_or, sym, ap, subst, ◌∙◌, arith, Option, Some, None, IsSome, MatchOption, slice_get, find, rules}
+use Rattle.std.proofs.Common.{◌≡◌, ℕ, zero, suc, ◌+◌, ◌<◌, true, false, cond, List, [], ◌∷◌, length, drop, get_or, sym, ap, subst, ◌∙◌, arith, Option, Some, None, IsSome, MatchOption, find, rules}
 use Rattle.std.specs.Str.{bytes_eq}
 use Rattle.std.proofs.lemmas.List.{at_drop_more}
 use Rattle.mem_vfs.specs.declared.file.File.{File}
@@ -14,11 +14,6 @@ pub place_within : (files : List File) (name : List ℕ) (i : ℕ) → IsPlace f
 place_within [] name i h = absurd h
 place_within (f ∷ files) name zero h = omega arith
 place_within (f ∷ files) name (suc i) h = omega (arith, place_within files name i h.1)
-
-pub find-place : (files : List File) (name : List ℕ) (i : ℕ) → IsPlace files name i → find (is_named name) files ≡ slice_get files i
-find-place [] name i h = absurd h
-find-place (f ∷ files) name zero h = ap (λ b. cond b (Some f) (find (is_named name) files)) h
-find-place (f ∷ files) name (suc i) h = ap (λ b. cond b (Some f) (find (is_named name) files)) h.0 ∙ find-place files name i h.1
 
 pub leads_on : (files : List File) (name : List ℕ) (at : ℕ) (f : File) → at < length files → f ≡ get_or files at f
     → bytes_eq f.name name ≡ false → LeadsTo files name at → LeadsTo files name (at + 1)

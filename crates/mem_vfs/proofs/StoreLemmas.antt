@@ -154,11 +154,6 @@ changes P files i name f new h is e holds =
     set_changes P files (slice_set files i new) name new (is_set files i name new h (kept_name files i name f new h is e))
     (subst Q (ap file_state (sym is) ∙ sym (store_at files name i f h is)) holds)
 
--- what holds of the state of a name holds of its file
-pub state_read : (P : FileState → Type 0) (files : List File) (i : ℕ) (name : List ℕ) (f : File) → IsPlace files name i → f ≡ get_or files i f
-    → P (store files name) → P (file_state (get_or files i f))
-state_read P files i name f h is holds = subst P (store_at files name i f h is ∙ ap file_state is) holds
-
 -- files with one more at their end, whose name had none
 pub pushed : (P : FileState → FileState → Type 0) (old new : List File) (name : List ℕ) (f : File) → new ≡ old ++ f ∷ [] → f.name ≡ name → find (is_named name) old ≡ None
     → P absent (file_state f) → Changes P old new name
@@ -169,11 +164,3 @@ pushed P old new name f is named none holds =
     let none_here : find (is_named f.name) old ≡ None = ap (λ n. find (is_named n) old) named ∙ none in
     subst Q (sym is) (subst R named (set_changes P old (old ++ f ∷ []) f.name f (is_pushed old f none_here)
     (subst S (sym (ap (λ o. option_map_or file_state o absent) none_here)) holds)))
-
--- files as they were
-pub same_changes : (P : FileState → FileState → Type 0) (files : List File) (name : List ℕ) → P (store files name) (store files name) → Changes P files files name
-same_changes P files name holds = record { file = holds; others = record { each = λ other differ. looser_same (store files other) } }
-
--- a name that the list lacks is absent
-pub absent_there : (files : List File) (name : List ℕ) → find (is_named name) files ≡ None → (store files name).now.there ≡ false
-absent_there files name none = ap (λ o. (option_map_or file_state o absent).now.there) none

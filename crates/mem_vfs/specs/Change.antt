@@ -17,13 +17,13 @@ abbrev pub Makes : Result Unit AllocError → FileState → FileState → Type 0
 Makes (Ok _) old new = IsOpened old new
 Makes (Err _) old new = OpenFailed old new
 
-pub record IsWrote (off : ℕ) (bytes : List ℕ) (old new : FileState) : Type 0 where
+pub record IsStored (off : ℕ) (bytes : List ℕ) (old new : FileState) : Type 0 where
   pub wrote : Wrote false old new off bytes
   pub unsettles : Unsettles old new (Inside off (length bytes)) old.shortest (off + length bytes)
 
 -- a write, done or without memory
 abbrev pub Writes : Result Unit AllocError → ℕ → List ℕ → FileState → FileState → Type 0
-Writes (Ok _) off bytes old new = IsWrote off bytes old new
+Writes (Ok _) off bytes old new = IsStored off bytes old new
 Writes (Err _) off bytes old new = WriteFailed false old new off (length bytes)
 
 pub record IsCut (len : ℕ) (old new : FileState) : Type 0 where

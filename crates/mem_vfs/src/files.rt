@@ -1,6 +1,6 @@
 //! Files by their names.
 
-ghost use Rattle.std.specs.Prelude.{◌≡◌, ℕ, ◌+◌, ◌^◌, ◌≤◌, List, [], ◌<◌, length, slice_index_or, find, None, OnOk, OnErr, IfOk, IfSome, IsTrue, MatchOption};
+ghost use Rattle.std.specs.Prelude.{◌≡◌, ℕ, ◌+◌, ◌^◌, ◌≤◌, List, [], ◌<◌, length, slice_index_or, find, None, IfOk, IfSome, IsTrue, MatchOption};
 ghost use Rattle.vfs_model.specs.Effect.{Synced};
 ghost use Rattle.vfs_model.specs.Store.{NamesSynced};
 ghost use Rattle.mem_vfs.specs.declared.file.File.{File};

@@ -7,12 +7,10 @@ is a crate that is made in a folder of its own, beside copies of tree_page and o
 before it is built, over the work that earlier checks of those crates have kept; the repository stays as it is.
 """
 import os
-import shutil
-import subprocess
-import sys
 import tempfile
 
-TOP = os.path.dirname(os.path.dirname(os.path.abspath(__file__)))
+from sqlite_files import program, run
+
 ROUNDS = 100_000
 RUNS = 7
 PAGES = [(371, 5), (43, 88)]  # rows, and the bytes of each
@@ -87,44 +85,20 @@ fn main(rt: HostRuntime) -> ExitCode {{
 """
 
 
-def stands_on(crates, name):
-    """The crate and those of the repository below it."""
-    below = {name}
-    for other in crates[name]:
-        if other in crates:
-            below |= stands_on(crates, other)
-    return below
-
-
-def program(top):
+def built(folder):
     """Makes the crate, and returns what it was built to."""
-    with open(os.path.join(TOP, "crates.txt")) as lines:
-        crates = dict(line.strip().split(":") for line in lines if not line.startswith("#") and line.strip())
-    crates = {name: needs.split() for name, needs in crates.items()}
-    below = sorted(stands_on(crates, "tree_page"))
-    for name in below:
-        shutil.copytree(os.path.join(TOP, "crates", name), os.path.join(top, "crates", name))
-    shutil.copy(os.path.join(TOP, "HANDLES"), top)
-    with open(os.path.join(top, "crates.txt"), "w") as file:
-        file.writelines(f"{name}: {' '.join(crates[name])}\n" for name in below)
-        file.write(f"read_pages: {' '.join(sorted({*below, *crates['tree_page']}))}\n")
-    crate = os.path.join(top, "crates", "read_pages")
-    os.makedirs(os.path.join(crate, "src"))
     calls = ", ".join(f"timed(&rt, {rows}, {size})" for rows, size in PAGES)
-    with open(os.path.join(crate, "src", "main.rt"), "w") as file:
-        file.write(PROGRAM.format(rounds=ROUNDS, timed=calls))
-    run = subprocess.run(["rt", "run"], cwd=crate, capture_output=True, text=True)
-    if run.returncode != 0:
-        sys.exit(f"{run.stdout[-2000:]}\n{run.stderr[-3000:]}\nthe program was not built")
-    return os.path.join(crate, "out", "read_pages")
+    made = program(folder, "read_pages", ["tree_page"], PROGRAM.format(rounds=ROUNDS, timed=calls))
+    run(made, "rt", "run")
+    return os.path.join(made, "out", "read_pages")
 
 
 def main():
     with tempfile.TemporaryDirectory() as folder:
-        built = program(folder)
+        path = built(folder)
         best = {}
         for _ in range(RUNS):
-            lines = subprocess.run([built], capture_output=True, text=True, check=True).stdout.splitlines()
+            lines = run(folder, path).splitlines()
             for page, line in zip(PAGES, lines, strict=True):
                 total, nanos = map(int, line.split())
                 assert total == ROUNDS * page[0], f"{total} cells of {page}"

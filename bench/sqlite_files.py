@@ -1,4 +1,4 @@
-"""What the comparisons with sqlite3 share: asking it, reading a varint, and a crate to run a test in."""
+"""What the scripts here share: asking sqlite3, reading a varint, and crates that stand over copies of the repository's."""
 import os
 import shutil
 import subprocess
@@ -19,14 +19,11 @@ def varint(data, at):
     return value << 8 | data[at + 8], at + 9
 
 
-def copy_of(folder, crate, module):
-    """A copy of a crate, and of the crates that it stands on, in a folder of its own, with a module of tests more.
-
-    Answers the path of the copy. The module is that of src/NAME.rt, which the caller writes.
-    """
+def copy_crates(folder, crates):
+    """Copies of these crates, and of those that they stand on, in a folder of their own. Answers the names of all."""
     with open(os.path.join(TOP, "crates.txt")) as file:
         lines = {line.split(":")[0]: line for line in file if ":" in line and not line.startswith("#")}
-    wanted = [crate]
+    wanted = list(crates)
     for name in wanted:
         wanted += [low for low in lines[name].split(":")[1].split() if low in lines and low not in wanted]
     for name in wanted:
@@ -35,7 +32,36 @@ def copy_of(folder, crate, module):
     shutil.copy(os.path.join(TOP, "HANDLES"), os.path.join(folder, "HANDLES"))
     with open(os.path.join(folder, "crates.txt"), "w") as file:
         file.writelines(lines[name] for name in wanted)
+    return wanted
+
+
+def copy_of(folder, crate, module):
+    """A copy of a crate, over copies of those that it stands on, with a module of tests more.
+
+    Answers the path of the copy. The module is that of src/NAME.rt, which the caller writes.
+    """
+    copy_crates(folder, [crate])
     copy = os.path.join(folder, "crates", crate)
     with open(os.path.join(copy, "src", "lib.rt"), "a") as file:
         file.write(f"\n#[cfg(test)]\nmod {module};\n")
     return copy
+
+
+def program(folder, name, crates, source):
+    """A program of this source, over copies of these crates and of those that they stand on. Answers its path."""
+    below = copy_crates(folder, crates)
+    with open(os.path.join(folder, "crates.txt"), "a") as file:
+        file.write(f"{name}: {' '.join(below)}\n")
+    made = os.path.join(folder, "crates", name)
+    os.makedirs(os.path.join(made, "src"))
+    with open(os.path.join(made, "src", "main.rt"), "w") as file:
+        file.write(source)
+    return made
+
+
+def run(made, *command):
+    """What a command prints in the folder of a crate."""
+    done = subprocess.run(command, cwd=made, capture_output=True, text=True)
+    if done.returncode != 0:
+        raise SystemExit(f"{done.stdout[-2000:]}\n{done.stderr[-3000:]}\n{' '.join(command)} failed")
+    return done.stdout

@@ -19,6 +19,7 @@ PROGRAM = """//! Made by bench/put_rows.py.
 ghost use Rattle.page_pool.specs.Memory.{mem_state};
 
 use db_format::new_header;
+use page_pool::put_cleared;
 use rowid_tree::{MemSpace, PageSpace, SpaceFault, make_root, put};
 use std::alloc::Global;
 use std::io;
@@ -91,7 +92,7 @@ fn fill(alloc: Global, count: u32, scattered: bool) -> Result<Counted, SpaceFaul
         new_header(4096, 0, &mut page);
     }
     if space.size() == 1 && space.page_size() == 4096 && space.usable() == 4096 && page.len() == 4096 {
-        space.put(1, &page)?;
+        put_cleared(&mut space, 1, &mut page)?;
     }
     if space.size() == 0 {
         return Err(SpaceFault::Memory);

@@ -4,6 +4,7 @@ ghost use Rattle.std.specs.Prelude.{◌≡◌, ◌≤◌, IfOk};
 ghost use Rattle.page_pool.specs.Memory.{mem_state};
 
 use db_format::{Bytes, Value, new_header, write_record};
+use page_pool::put_cleared;
 use ref_pages::{RefPage, RefPages};
 use ref_trees::{Walked, cells_at, is_whole_for, need_of, use_of, walk_of};
 use rowid_tree::{MemSpace, PageSpace, find, make_root, next_from, put};
@@ -28,7 +29,7 @@ fn database(
     let cells = PageCells::Leaf(LeafCells::from_vec(Vec::new(alloc)));
     write_page(&cells, 1, page_size - u32::from(reserved), &mut page);
     new_header(page_size, reserved, &mut page);
-    space.put(1, &page)?;
+    put_cleared(&mut space, 1, &mut page)?;
     Ok(space)
 }
 

@@ -1,3 +1,4 @@
+pub mod ChunkLemmas
 pub mod PartLemmas
 pub mod SoundLemmas
 pub mod StackLemmas

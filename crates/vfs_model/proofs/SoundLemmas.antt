@@ -1,5 +1,5 @@
 -- Views and soundness.
-use Rattle.std.proofs.Common.{◌≡◌, ◌≢◌, ℕ, zero, suc, ◌+◌, ◌<◌, List, [], ◌∷◌, refl, sym, ap, ◌∙◌, IsTrue, if◌then◌else◌, arith}
+use Rattle.std.proofs.Common.{◌≡◌, ◌≢◌, ℕ, zero, suc, ◌+◌, ◌<◌, List, [], ◌∷◌, ◌++◌, refl, sym, ap, ◌∙◌, IsTrue, if◌then◌else◌, arith}
 use Rattle.std.proofs.Common.{rules}
 use Rattle.std.specs.Char.{is_ascii_digit}
 use Rattle.std.specs.List.{list_all}
@@ -48,7 +48,7 @@ sound_over layer layers base below above own sound = record {
 }
 
 -- separate names are two
-two : (name other : List ℕ) → Separate name other → name ≢ other
+pub two : (name other : List ℕ) → Separate name other → name ≢ other
 two name other h same = let none : IsTrue (list_all is_ascii_digit []) = search rules in h.below ([], none, sym same ∙ sym (append-nil name))
 
 pub apart_of : (layers : List Layer) (name other : List ℕ) → Separate name other → Apart layers name other
@@ -61,3 +61,8 @@ apart_of (Quota groups ∷ below) name other h = apart_of below name other h
 
 pub back : (name other : List ℕ) → Separate name other → Separate other name
 back name other h = record { below = h.above; above = h.below }
+
+-- two stacks, one on the other, show what the whole shows
+pub composed : (above below : List Layer) (files : Files) → through (above ++ below) files ≡ through above (through below files)
+composed [] below files = refl
+composed (layer ∷ above) below files = ap (view layer) (composed above below files)

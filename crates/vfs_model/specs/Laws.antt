@@ -1,8 +1,9 @@
 -- What follows from the definitions, for all callers.
-use Rattle.std.specs.Prelude.{◌≡◌, ℕ, ◌+◌, ◌<◌, Bool, false, List, ◌∷◌, length, IsTrue, slice_get}
+use Rattle.std.specs.Prelude.{◌≡◌, ℕ, ◌+◌, ◌<◌, Bool, false, List, [], ◌∷◌, ◌++◌, length, IsTrue, slice_get}
 use Rattle.vfs_model.specs.File.{Found, FileState, IsOrderly, IsImage, IsSettled, SameFound}
 use Rattle.vfs_model.specs.Effect.{NoLooser, Wrote, Synced, NameSynced}
-use Rattle.vfs_model.specs.Store.{Store, Separate, Apart}
+use Rattle.vfs_model.specs.Store.{Store, Files, Separate, Apart}
+use Rattle.vfs_model.specs.View.{through, ViewedFrom}
 use Rattle.vfs_model.specs.Sound.{Sound, OwnStep}
 use Rattle.vfs_model.specs.declared.layer.Layer.{Layer}
 
@@ -38,3 +39,15 @@ SeparateApart = (layers : List Layer) (name other : List ℕ) → Separate name 
 -- no looser, twice
 abbrev pub LooserTwice : Type 0
 LooserTwice = (a b c : FileState) → NoLooser a b → NoLooser b c → NoLooser a c
+
+-- a stack without layers shows the files themselves
+abbrev pub EmptyView : Type 0
+EmptyView = (files : Files) → through [] files ≡ files
+
+-- layers on layers show what all of them together show
+abbrev pub ViewsCompose : Type 0
+ViewsCompose = (above below : List Layer) (files : Files) → through (above ++ below) files ≡ through above (through below files)
+
+-- no layer's views of separate names make use of the same file
+abbrev pub ViewedApart : Type 0
+ViewedApart = (layer : Layer) (name other seen : List ℕ) → Separate name other → ViewedFrom layer name seen → ViewedFrom layer other seen → ⊥

@@ -3,6 +3,8 @@
 use Rattle.std.specs.Prelude.{ℕ, ◌+◌, ◌-◌, ◌%◌, Bool, ◌&&◌, ◌||◌, nat_eq, nat_le, nat_lt, if◌then◌else◌, List, [], ◌∷◌, ◌++◌, length, take, drop, codes, Option, Some, None}
 use Rattle.std.specs.List.{starts_with}
 use Rattle.byte_base.specs.Numbers.{number_at}
+use Rattle.vfs_model.specs.declared.mark.Placed.{Placed}
+use Rattle.vfs_model.specs.declared.mark.Placed.TheVariants.{Ordinary, Behind, Fresh}
 
 -- how long a mark is, and the text that it begins with; the rest is the place where the database begins
 abbrev pub mark_size : ℕ
@@ -39,17 +41,12 @@ tail_of bytes = drop (length bytes - mark_size) bytes
 abbrev pub start_of : List ℕ → Option ℕ
 start_of bytes = mark_in (tail_of bytes) (length bytes)
 
--- how a file is opened: as a database, which it is or, empty, will be; as one with a database behind other content, from a
--- place up to the mark; or as one of so many bytes without a mark, where a database is to begin at the next multiple of 4096
-pub data Placed : Type 0 where
-  Ordinary : Placed
-  Behind : ℕ → Placed
-  Fresh : ℕ → Placed
-
 -- the least multiple of 4096 that is at least this
 abbrev pub next_start : ℕ → ℕ
 next_start len = (len + 4095) - (len + 4095) % 4096
 
+-- A file is opened as a database, which it is or, empty, will be; or as one with a database behind other content, from a
+-- place up to the mark; or as a file of so many bytes without a mark, where one is to begin at the next multiple of 4096.
 abbrev pub placed_by : List ℕ → Option ℕ → Placed
 placed_by bytes (Some start) = Behind start
 placed_by bytes None = if has_header bytes then Ordinary else Fresh (length bytes)

@@ -4,7 +4,9 @@ use Rattle.std.specs.Prelude.{ℕ, zero, suc, ◌+◌, ◌-◌, ◌*◌, min, ma
 use Rattle.std.specs.Char.{is_ascii_digit}
 use Rattle.std.specs.List.{list_all, starts_with}
 use Rattle.vfs_model.specs.Store.{Files}
-use Rattle.vfs_model.specs.Mark.{mark_size, Placed, Ordinary, Behind, Fresh, next_start, placed}
+use Rattle.vfs_model.specs.Mark.{mark_size, next_start, placed}
+use Rattle.vfs_model.specs.declared.mark.Placed.{Placed}
+use Rattle.vfs_model.specs.declared.mark.Placed.TheVariants.{Ordinary, Behind, Fresh}
 use Rattle.vfs_model.specs.Glob.{matches}
 use Rattle.vfs_model.specs.View.{through, chunk_name, most_chunks}
 use Rattle.vfs_model.specs.declared.layer.Group.{Group}

@@ -7,17 +7,19 @@
 mod laws;
 mod layer;
 mod level;
+mod mark;
 mod name;
 mod pattern;
 mod stack;
 mod text;
 
 pub use laws::{
-    both_settle, looser_twice, now_is_image, older_images, separate_apart, settled_stays,
-    sound_above, written_stands,
+    both_settle, empty_view, looser_twice, now_is_image, older_images, separate_apart,
+    settled_stays, sound_above, viewed_apart, views_compose, written_stands,
 };
 pub use layer::{Group, Groups, Layer};
 pub use level::{Fid, Level, Owner};
-pub use name::{Kind, Name};
+pub use mark::Placed;
+pub use name::{Kind, Name, kind_of};
 pub use pattern::Pattern;
 pub use stack::{PLACES, Place, permitted, place_for};

@@ -88,14 +88,21 @@ impl Name {
     pub fn kind(&self) -> Kind
         ensures { result ≡ kind_of self.now }
     {
-        let stem = stem(self.bytes());
-        if stem.ends_with(b"-journal") {
-            Kind::Journal
-        } else if has_part(stem, b"-with-") {
-            Kind::Super
-        } else {
-            Kind::Main
-        }
+        kind_of(self.bytes())
+    }
+}
+
+/// What a file is for whose name has these bytes, also where they are no name.
+pub fn kind_of(name: &[u8]) -> Kind
+    ensures { result ≡ kind_of name.now }
+{
+    let stem = stem(name);
+    if stem.ends_with(b"-journal") {
+        Kind::Journal
+    } else if has_part(stem, b"-with-") {
+        Kind::Super
+    } else {
+        Kind::Main
     }
 }
 

@@ -25,7 +25,7 @@ with_part part None = None
 with_part part (Some parts) = Some (part ∷ parts)
 
 -- the parts of a pattern, none where a list is not closed. The first byte of a list stands in it whatever it is
-pub parts_from : Reading → List ℕ → Option (List Part)
+unfoldable pub parts_from : Reading → List ℕ → Option (List Part)
 parts_from Outside [] = Some []
 parts_from Opened [] = None
 parts_from (First but) [] = None
@@ -37,7 +37,7 @@ parts_from (Inside but bytes) (b ∷ more) =
     if nat_eq b 93 then with_part (OneOf but bytes) (parts_from Outside more) else parts_from (Inside but (bytes ++ b ∷ [])) more
 
 -- a byte stands in a list, which is read from the left: two bytes with `-` between are a range
-pub in_list : List ℕ → ℕ → Bool
+unfoldable pub in_list : List ℕ → ℕ → Bool
 in_list [] b = false
 in_list (x ∷ []) b = nat_eq x b
 in_list (x ∷ y ∷ []) b = nat_eq x b || nat_eq y b
@@ -61,7 +61,7 @@ abbrev pub one_then : Part → (List ℕ → Bool) → List ℕ → Bool
 one_then part test [] = false
 one_then part test (b ∷ more) = allows part b && test more
 
-pub parts_match : List Part → List ℕ → Bool
+unfoldable pub parts_match : List Part → List ℕ → Bool
 parts_match [] [] = true
 parts_match [] (b ∷ more) = false
 parts_match (AnyRun ∷ parts) text = some_end (parts_match parts) text
@@ -75,5 +75,5 @@ parts_match_if None text = false
 parts_match_if (Some parts) text = parts_match parts text
 
 -- the pattern matches the whole text
-pub matches : List ℕ → List ℕ → Bool
+unfoldable pub matches : List ℕ → List ℕ → Bool
 matches pattern text = parts_match_if (parts_from Outside pattern) text

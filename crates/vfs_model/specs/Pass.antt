@@ -137,7 +137,7 @@ abbrev pub then_pass : Passing → (Lengths → Passing) → Passing
 then_pass (Passes after) more = more after
 then_pass (IsFull total limit) more = IsFull total limit
 
-pub by_chunks : (Lengths → List ℕ → ℕ → ℕ → Passing) → ℕ → ℕ → List ℕ → ℕ → ℕ → ℕ → Lengths → Passing
+unfoldable pub by_chunks : (Lengths → List ℕ → ℕ → ℕ → Passing) → ℕ → ℕ → List ℕ → ℕ → ℕ → ℕ → Lengths → Passing
 by_chunks below zero chunk name number off end lengths = Passes lengths
 by_chunks below (suc left) chunk name number off end lengths =
     if nat_le end (chunk * number) then Passes lengths
@@ -165,7 +165,7 @@ pass (Quota groups ∷ below) (own ∷ limits) (files ∷ lengths) name off end 
 -- the lengths that views give: of a name at each of these layers, and of its chunks below a multiplexor
 
 -- the names of the chunks of a file that are there, up to the end of the file
-pub chunk_names : ℕ → ℕ → Files → List ℕ → ℕ → List (List ℕ)
+unfoldable pub chunk_names : ℕ → ℕ → Files → List ℕ → ℕ → List (List ℕ)
 chunk_names zero chunk files name number = []
 chunk_names (suc left) chunk files name number =
     if (files (chunk_name name number)).there then chunk_name name number ∷ (if nat_lt (length (files (chunk_name name number)).bytes) chunk then [] else chunk_names left chunk files name (suc number)) else []

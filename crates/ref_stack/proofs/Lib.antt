@@ -1,0 +1,3 @@
+pub mod GlobLemmas
+pub mod ShownLemmas
+pub mod SumLemmas

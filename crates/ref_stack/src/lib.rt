@@ -1,0 +1,20 @@
+//! The plain, slow program of what the layers of a stack show and of how a write passes down them, over files in memory.
+//! Its contracts are the definitions of `vfs_model`, and the tests of each layer compare with it.
+#![tactic(auto)]
+
+mod chunk;
+mod files;
+mod glob;
+mod mark;
+mod sums;
+mod shown;
+
+pub use chunk::chunk_name;
+pub use files::Shown;
+pub use glob::matches;
+pub use mark::{mark_in, placed};
+pub use sums::{fails, sum_of, without_sums};
+pub use shown::{is_bad, through};
+
+#[cfg(test)]
+mod tests;

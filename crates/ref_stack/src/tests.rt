@@ -1,0 +1,112 @@
+//! Worked examples, by hand and from the formats.
+
+use crate::{chunk_name, fails, is_bad, matches, placed, sum_of, through};
+use byte_base::Bytes;
+use std::alloc::{AllocError, Global};
+use std::test::Fail;
+use vfs_model::{Layer, Name, Placed};
+
+/// So many bytes, each the same.
+fn all(alloc: Global, b: u8, len: usize) -> Result<Bytes, AllocError> {
+    let mut bytes = Vec::new(alloc);
+    for _ in 0..len {
+        bytes.push(b)?;
+    }
+    Ok(Bytes::from_vec(bytes))
+}
+
+#[test]
+fn sums_run_over_pairs_of_words(rt: HostRuntime) {
+    let pair = [1, 0, 0, 0, 2, 0, 0, 0];
+    assert!(rt; sum_of(&pair) == (1, 3));
+    let two = [1, 0, 0, 0, 2, 0, 0, 0, 255, 255, 255, 255, 0, 0, 0, 0];
+    assert!(rt; sum_of(&two) == (3, 6));
+    assert!(rt; sum_of(&[0; 504]) == (0, 0));
+    let mut page = [0; 512];
+    assert!(rt; !fails(512, &page, 0));
+    page[0] = 1;
+    assert!(rt; fails(512, &page, 0));
+    assert!(rt; fails(512, &page[..100], 0));
+    assert!(rt; !fails(512, &page, 1));
+}
+
+#[test]
+fn patterns_match_whole_names(rt: HostRuntime) {
+    let cases: [(&[u8], &[u8], bool); 13] = [
+        (b"main*", b"main", true),
+        (b"main*", b"main001", true),
+        (b"m[a-c]in", b"main", true),
+        (b"m[^a]in", b"main", false),
+        (b"m?in", b"main", true),
+        (b"[]]x", b"]x", true),
+        (b"*", b"", true),
+        (b"main", b"mainx", false),
+        (b"a[b", b"ab", false),
+        (b"[a-]", b"-", true),
+        (b"[z-a]x", b"zx", false),
+        (b"a/b", b"a\\b", true),
+        (b"a/b", b"axb", false),
+    ];
+    for (pattern, text, expected) in cases {
+        assert!(rt; matches(pattern, text) == expected, "{pattern:?} {text:?}");
+    }
+}
+
+#[test]
+fn chunks_have_numbered_names(rt: HostRuntime) -> Result<(), Fail> {
+    let cases: [(u32, &[u8]); 4] = [
+        (0, b"main"),
+        (1, b"main001"),
+        (12, b"main012"),
+        (1000, b"main1000"),
+    ];
+    for (number, expected) in cases {
+        let name = chunk_name(rt.alloc(), b"main", number)?;
+        assert!(rt; name.as_slice() == expected, "{number}");
+    }
+    Ok(())
+}
+
+#[test]
+fn a_file_without_a_mark_is_an_empty_database_behind_it(rt: HostRuntime) -> Result<(), Fail> {
+    let bytes = all(rt.alloc(), b'x', 5000)?;
+    assert!(rt; placed(bytes.as_slice()) == Placed::Fresh(8192));
+    let main = Name::new(b"main").ok_or("a name")?;
+    let journal = Name::new(b"main-journal").ok_or("a name")?;
+    let files = [(main, bytes), (journal, all(rt.alloc(), b'x', 10)?)];
+    let shown = through(rt.alloc(), &[Layer::Append], &files, b"main")?;
+    assert!(rt; shown.there && shown.bytes.as_slice().is_empty());
+    let journal = through(rt.alloc(), &[Layer::Append], &files, b"main-journal")?;
+    assert!(rt; journal.there && journal.bytes.as_slice().len() == 10);
+    let other = through(rt.alloc(), &[Layer::Append], &files, b"other")?;
+    assert!(rt; !other.there);
+    Ok(())
+}
+
+#[test]
+fn chunks_are_joined_up_to_a_short_one(rt: HostRuntime) -> Result<(), Fail> {
+    let layers = [Layer::Trace, Layer::Mux { chunk: 65536 }];
+    let main = Name::new(b"main").ok_or("a name")?;
+    let next = Name::new(b"main001").ok_or("a name")?;
+    let whole = [(main, all(rt.alloc(), 1, 65536)?), (next, all(rt.alloc(), 2, 512)?)];
+    let shown = through(rt.alloc(), &layers, &whole, b"main")?;
+    assert!(rt; shown.bytes.as_slice().len() == 66048 && shown.bytes.as_slice()[65536] == 2);
+    let stale = [(main, all(rt.alloc(), 1, 512)?), (next, all(rt.alloc(), 2, 512)?)];
+    let shown = through(rt.alloc(), &layers, &stale, b"main")?;
+    assert!(rt; shown.bytes.as_slice().len() == 512);
+    Ok(())
+}
+
+#[test]
+fn a_page_keeps_its_sums_to_itself(rt: HostRuntime) -> Result<(), Fail> {
+    let layers = [Layer::Cksum { page: 512 }];
+    let main = Name::new(b"main").ok_or("a name")?;
+    let files = [(main, all(rt.alloc(), 1, 1000)?)];
+    let shown = through(rt.alloc(), &layers, &files, b"main")?;
+    let bytes = shown.bytes.as_slice();
+    assert!(rt; bytes.len() == 1000 && bytes[503] == 1 && bytes[504] == 0 && bytes[511] == 0 && bytes[512] == 1);
+    assert!(rt; is_bad(rt.alloc(), &layers, &files, b"main", 0)?);
+    assert!(rt; is_bad(rt.alloc(), &layers, &files, b"main", 512)?);
+    assert!(rt; !is_bad(rt.alloc(), &[], &files, b"main", 0)?);
+    Ok(())
+}

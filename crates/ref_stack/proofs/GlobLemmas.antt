@@ -1,8 +1,8 @@
 -- Patterns that begin with one part.
-use Rattle.std.proofs.Common.{◌≡◌, ◌≢◌, ℕ, zero, suc, ◌+◌, ◌-◌, ◌<◌, ◌≤◌, Bool, true, false, not, ◌&&◌, ◌||◌, nat_eq, nat_le, if◌then◌else◌, List, [], ◌∷◌, ◌++◌, length, get_or, take, drop, Option, Some, None, refl, sym, ap, ◌∙◌, subst, arith, rules}
+use Rattle.std.proofs.Common.{◌≡◌, ◌≢◌, ℕ, suc, ◌+◌, ◌<◌, ◌≤◌, Bool, true, false, ◌&&◌, ◌||◌, nat_eq, nat_le, if◌then◌else◌, List, [], ◌∷◌, ◌++◌, length, get_or, take, drop, Option, Some, None, refl, sym, ap, ◌∙◌, arith}
 use Rattle.std.proofs.lemmas.Bool.{ne_eqb}
 use Rattle.std.proofs.lemmas.List.{at_drop_more, take_more, drop_all}
-use Rattle.vfs_model.specs.Glob.{Part, AnyRun, AnyByte, OneOf, Slash, Byte, Reading, Outside, Opened, First, Inside, parts_from, with_part, part_of, allows, in_list, some_end, one_then, parts_match, parts_match_if, matches}
+use Rattle.vfs_model.specs.Glob.{Part, AnyRun, AnyByte, OneOf, Slash, Byte, Outside, Opened, First, Inside, parts_from, with_part, part_of, allows, in_list, some_end, one_then, parts_match, parts_match_if, matches}
 use Rattle.ref_stack.specs.Brackets.{ClosesAt, NeverCloses, ReadsTo}
 
 -- a part that takes one byte

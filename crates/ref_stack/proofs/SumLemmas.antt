@@ -1,10 +1,9 @@
 -- Checksums of pages.
-use Rattle.std.proofs.Common.{◌≡◌, ℕ, zero, suc, ◌+◌, ◌-◌, ◌*◌, ◌%◌, ◌<◌, ◌≤◌, Bool, true, false, not, ◌&&◌, ◌||◌, nat_eq, nat_le, nat_lt, if◌then◌else◌, List, [], ◌∷◌, ◌++◌, length, get_or, take, drop, replicate, refl, sym, ap, ◌∙◌, arith, append_assoc, add-one, length-drop}
+use Rattle.std.proofs.Common.{◌≡◌, ℕ, suc, ◌+◌, ◌-◌, ◌*◌, ◌%◌, ◌<◌, ◌≤◌, Bool, true, not, ◌&&◌, ◌||◌, nat_eq, nat_le, nat_lt, if◌then◌else◌, List, [], ◌∷◌, ◌++◌, length, get_or, take, drop, replicate, sym, ap, ◌∙◌, arith, append_assoc, add-one, length-drop}
 use Rattle.std.proofs.lemmas.Bool.{lt-ltb, le-leb}
-use Rattle.std.proofs.lemmas.Bool.Decides.{nat_tests}
 use Rattle.std.proofs.lemmas.List.{at_drop_more, length-take-le, append-nil}
 use Rattle.std.proofs.Math.Nat.{mul-suc}
-use Rattle.vfs_model.specs.Sums.{sums, sum_of, kept_sums, kept_size, page_at, fails, without_sums, little, is_complete, found_sums, stored_sums}
+use Rattle.vfs_model.specs.Sums.{sums, sum_of, kept_sums, kept_size, page_at, fails, without_sums, little, is_complete}
 use Rattle.ref_stack.specs.Pages.{has_other_sums}
 
 -- one pair of words
@@ -38,8 +37,8 @@ whole_fails page number bytes own begun whole own_is =
     let padded : own ≡ page_at page bytes number =
     sym (append-nil own) ∙ ap (λ n. own ++ replicate n 0) (sym none) ∙ ap (λ xs. xs ++ replicate (page - length xs) 0) own_is in
     let other : List ℕ → ℕ → Bool = λ xs n.
-      not (nat_eq (sum_of (take (n - kept_size) xs)).0 (kept_sums (drop (n - kept_size) xs)).0
-      && nat_eq (sum_of (take (n - kept_size) xs)).1 (kept_sums (drop (n - kept_size) xs)).1) in
+    not (nat_eq (sum_of (take (n - kept_size) xs)).0 (kept_sums (drop (n - kept_size) xs)).0
+    && nat_eq (sum_of (take (n - kept_size) xs)).1 (kept_sums (drop (n - kept_size) xs)).1) in
     ap (other own) size ∙ ap (λ xs. other xs page) padded
     ∙ ap (λ b. b && (not true || other (page_at page bytes number) page)) (sym begins)
     ∙ ap (λ b. nat_lt (page * number) (length bytes) && (not b || other (page_at page bytes number) page)) (sym full)

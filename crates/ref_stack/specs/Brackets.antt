@@ -1,6 +1,6 @@
 -- Where the list behind an opening bracket ends.
-use Rattle.std.specs.Prelude.{◌≡◌, ℕ, ◌+◌, ◌<◌, ◌≤◌, Bool, List, take, drop, length, Option, None}
-use Rattle.vfs_model.specs.Glob.{Part, OneOf, First, Inside, Outside, parts_from, with_part}
+use Rattle.std.specs.Prelude.{◌≡◌, ℕ, ◌+◌, ◌<◌, ◌≤◌, Bool, List, take, drop, length, None}
+use Rattle.vfs_model.specs.Glob.{OneOf, First, Inside, Outside, parts_from, with_part}
 
 -- the list has the bytes before this place, and the pattern goes on behind it
 pub record ClosesAt (pattern : List ℕ) (end : ℕ) : Type 0 where

@@ -17,11 +17,7 @@ pub struct Shown {
 }
 
 /// The first file of a name.
-pub fn file_in(
-    alloc: Global,
-    files: &[(Name, Bytes)],
-    name: &[u8],
-) -> Result<Shown, AllocError>
+pub fn file_in(alloc: Global, files: &[(Name, Bytes)], name: &[u8]) -> Result<Shown, AllocError>
     ensures { IfOk result (Shows (files_of files.now name.now)) }
 {
     let Some((file, more)) = files.split_first() else {

@@ -119,7 +119,11 @@ fn allows(part: u8, b: u8) -> bool
 fn is_allowed(but: bool, list: &[u8], b: u8) -> bool
     ensures { result ≡ allows (OneOf but list.now) b }
 {
-    if but { !in_list(list, b) } else { in_list(list, b) }
+    if but {
+        !in_list(list, b)
+    } else {
+        in_list(list, b)
+    }
 }
 
 /// Whether a byte stands in a list.

@@ -6,15 +6,15 @@ mod chunk;
 mod files;
 mod glob;
 mod mark;
-mod sums;
 mod shown;
+mod sums;
 
 pub use chunk::chunk_name;
 pub use files::Shown;
 pub use glob::matches;
-pub use mark::{mark_in, placed};
-pub use sums::{fails, sum_of, without_sums};
+pub use mark::{mark_in, placed, next_start};
 pub use shown::{is_bad, through};
+pub use sums::{fails, sum_of, without_sums};
 
 #[cfg(test)]
 mod tests;

@@ -44,7 +44,7 @@ pub fn placed(bytes: &[u8]) -> Placed
     if bytes.starts_with(b"SQLite format 3\0") {
         return Placed::Ordinary;
     }
-    Placed::Fresh(next_start(len))
+    Placed::Fresh(len)
 }
 
 /// What an append layer shows of a database file with these bytes.
@@ -69,8 +69,8 @@ fn between(bytes: &[u8], start: u64) -> &[u8]
     &bytes[start as usize..end]
 }
 
-/// The least multiple of 4096 that is at least this.
-fn next_start(len: u64) -> u64
+/// Where a database begins in a file of this length that has no mark: the least multiple of 4096 that is at least this.
+pub fn next_start(len: u64) -> u64
     requires { len ≤ 4294967296 }
     ensures { result ≡ next_start len }
 {

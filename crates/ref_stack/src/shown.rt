@@ -89,7 +89,11 @@ fn bytes_from(
         return Ok(shown.bytes);
     }
     let rest = bytes_from(alloc, chunk, below, files, name, number + 1)?;
-    joined(alloc, &shown.bytes.as_slice()[..chunk as usize], rest.as_slice())
+    joined(
+        alloc,
+        &shown.bytes.as_slice()[..chunk as usize],
+        rest.as_slice(),
+    )
 }
 
 /// Two byte strings, one behind the other.

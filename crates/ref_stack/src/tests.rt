@@ -1,6 +1,6 @@
 //! Worked examples, by hand and from the formats.
 
-use crate::{chunk_name, fails, is_bad, matches, placed, sum_of, through};
+use crate::{chunk_name, fails, is_bad, matches, next_start, placed, sum_of, through};
 use byte_base::Bytes;
 use std::alloc::{AllocError, Global};
 use std::test::Fail;
@@ -70,7 +70,7 @@ fn chunks_have_numbered_names(rt: HostRuntime) -> Result<(), Fail> {
 #[test]
 fn a_file_without_a_mark_is_an_empty_database_behind_it(rt: HostRuntime) -> Result<(), Fail> {
     let bytes = all(rt.alloc(), b'x', 5000)?;
-    assert!(rt; placed(bytes.as_slice()) == Placed::Fresh(8192));
+    assert!(rt; placed(bytes.as_slice()) == Placed::Fresh(5000) && next_start(5000) == 8192);
     let main = Name::new(b"main").ok_or("a name")?;
     let journal = Name::new(b"main-journal").ok_or("a name")?;
     let files = [(main, bytes), (journal, all(rt.alloc(), b'x', 10)?)];
@@ -88,10 +88,16 @@ fn chunks_are_joined_up_to_a_short_one(rt: HostRuntime) -> Result<(), Fail> {
     let layers = [Layer::Trace, Layer::Mux { chunk: 65536 }];
     let main = Name::new(b"main").ok_or("a name")?;
     let next = Name::new(b"main001").ok_or("a name")?;
-    let whole = [(main, all(rt.alloc(), 1, 65536)?), (next, all(rt.alloc(), 2, 512)?)];
+    let whole = [
+        (main, all(rt.alloc(), 1, 65536)?),
+        (next, all(rt.alloc(), 2, 512)?),
+    ];
     let shown = through(rt.alloc(), &layers, &whole, b"main")?;
     assert!(rt; shown.bytes.as_slice().len() == 66048 && shown.bytes.as_slice()[65536] == 2);
-    let stale = [(main, all(rt.alloc(), 1, 512)?), (next, all(rt.alloc(), 2, 512)?)];
+    let stale = [
+        (main, all(rt.alloc(), 1, 512)?),
+        (next, all(rt.alloc(), 2, 512)?),
+    ];
     let shown = through(rt.alloc(), &layers, &stale, b"main")?;
     assert!(rt; shown.bytes.as_slice().len() == 512);
     Ok(())
@@ -104,7 +110,13 @@ fn a_page_keeps_its_sums_to_itself(rt: HostRuntime) -> Result<(), Fail> {
     let files = [(main, all(rt.alloc(), 1, 1000)?)];
     let shown = through(rt.alloc(), &layers, &files, b"main")?;
     let bytes = shown.bytes.as_slice();
-    assert!(rt; bytes.len() == 1000 && bytes[503] == 1 && bytes[504] == 0 && bytes[511] == 0 && bytes[512] == 1);
+    assert!(rt;
+        bytes.len() == 1000
+            && bytes[503] == 1
+            && bytes[504] == 0
+            && bytes[511] == 0
+            && bytes[512] == 1
+    );
     assert!(rt; is_bad(rt.alloc(), &layers, &files, b"main", 0)?);
     assert!(rt; is_bad(rt.alloc(), &layers, &files, b"main", 512)?);
     assert!(rt; !is_bad(rt.alloc(), &[], &files, b"main", 0)?);

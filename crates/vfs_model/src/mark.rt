@@ -7,6 +7,6 @@ pub enum Placed {
     Ordinary,
     /// As a database behind other content, from this place up to the mark.
     Behind(u64),
-    /// As an empty database that the first write puts at this place, behind the content that the file has.
+    /// As an empty database that the first write puts behind the content that the file has, which are so many bytes.
     Fresh(u64),
 }

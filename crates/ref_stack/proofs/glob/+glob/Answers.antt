@@ -1,7 +1,7 @@
 use Rattle.std.proofs.Common.{rules, arith, ◌≡◌, [], ◌∷◌, sym, ◌∙◌, ap}
 use Rattle.std.proofs.lemmas.Grind.{common_steps}
 use Rattle.vfs_model.specs.Glob.{matches}
-use Rattle.ref_stack.proofs.GlobLemmas.{run_matches, byte_matches, bracket_matches, but_first, list_first, no_list, end_here, list_matches, list_never}
+use Rattle.ref_stack.proofs.GlobLemmas.{run_matches, byte_matches, bracket_matches, but_first, list_first, no_list, end_here, list_matches}
 use Rattle.ref_stack.proofs.glob.+glob.Goals as goal
 
 pub matches-returns-in_default : goal.matches-returns-in_default

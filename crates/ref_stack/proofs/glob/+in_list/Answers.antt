@@ -1,4 +1,4 @@
-use Rattle.std.proofs.Common.{rules, arith, ◌≡◌, ◌-◌, length, take, drop, length-drop}
+use Rattle.std.proofs.Common.{arith, ◌-◌, length, drop, length-drop}
 use Rattle.std.proofs.lemmas.Grind.{common_steps}
 use Rattle.std.proofs.lemmas.List.{take_all}
 use Rattle.ref_stack.proofs.GlobLemmas.{range_in, other_in}

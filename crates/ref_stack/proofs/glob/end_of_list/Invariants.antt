@@ -1,5 +1,3 @@
-use Rattle.std.proofs.Common.{◌≡◌, ◌≤◌, Bool, take, drop, length}
-use Rattle.vfs_model.specs.Glob.{First, Inside, parts_from}
 use Rattle.ref_stack.specs.Brackets.{ReadsTo}
 use Rattle.ref_stack.proofs.glob.end_of_list.Given as goal
 

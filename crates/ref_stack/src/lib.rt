@@ -12,7 +12,7 @@ mod sums;
 pub use chunk::chunk_name;
 pub use files::Shown;
 pub use glob::matches;
-pub use mark::{mark_in, placed, next_start};
+pub use mark::{mark_in, next_start, placed};
 pub use shown::{is_bad, through};
 pub use sums::{fails, sum_of, without_sums};
 

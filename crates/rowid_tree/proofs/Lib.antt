@@ -4,3 +4,4 @@ mod PutLemmas
 mod RootLemmas
 mod WholeLemmas
 mod AddLemmas
+mod LargeLemmas

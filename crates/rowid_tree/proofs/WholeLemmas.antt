@@ -21,7 +21,7 @@ use Rattle.tree_put.specs.Keeps.{IsChained, IsGiven, PutDone as PagesPut, PutKee
 use Rattle.rowid_tree.specs.Steps.{RestWritten, ReplacedFreed}
 use Rattle.rowid_tree.specs.Puts.{PutDone, PutsRow}
 
-chained : (old new : SpaceState) (rest : List ℕ) (first : ℕ) → IsTrue old.tells → RestWritten old new rest first → IsChained old.page_size old.pages new.pages rest first
+pub chained : (old new : SpaceState) (rest : List ℕ) (first : ℕ) → IsTrue old.tells → RestWritten old new rest first → IsChained old.page_size old.pages new.pages rest first
 chained old new rest first told (inl none) = inl (none.0, none.1, none.2.pages_stay told)
 chained old new rest first told (inr some) =
     let wrote = some.1 in

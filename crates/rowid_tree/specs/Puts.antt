@@ -1,6 +1,8 @@
 -- A put and a new root as a whole: what they leave of pages of any bytes.
-use Rattle.std.specs.Prelude.{◌≡◌, ◌⊎◌, ℕ, Bool, ℤ, List, ◌∷◌, ◌++◌, Option, None, is_some, IsTrue}
+use Rattle.std.specs.Prelude.{◌≡◌, ◌⊎◌, ℕ, ◌+◌, ◌-◌, ◌*◌, ◌≤◌, ◌<◌, Bool, ℤ, List, ◌∷◌, ◌++◌, length, Option, None, is_some, IsTrue}
+use Rattle.db_format.specs.Header.{greatest_length}
 use Rattle.db_format.specs.declared.fault.SpaceFault.{SpaceFault}
+use Rattle.db_format.specs.declared.fault.SpaceFault.TheVariants.{Failed, Memory, Bad, Corrupt, Large}
 use Rattle.page_pool.specs.Space.{SpaceState, Steady, Stays}
 use Rattle.page_list.specs.Pages.{Pages}
 use Rattle.page_list.specs.Freelist.{Trunk}
@@ -9,8 +11,11 @@ use Rattle.tree_page.specs.declared.cell.LeafCell.{LeafCell}
 use Rattle.tree_model.specs.declared.ends.PathEnd.TheVariants.{Ends}
 use Rattle.tree_model.specs.Walk.{Path}
 use Rattle.tree_model.specs.Tree.{Tree, root_of}
-use Rattle.tree_model.specs.Whole.{IsWholeFor}
+use Rattle.tree_model.specs.Whole.{IsWholeFor, named_pages}
+use Rattle.tree_model.specs.Need.{use_of}
+use Rattle.tree_laws.specs.Whole.{missing_in}
 use Rattle.tree_put.specs.Keeps.{IsPut}
+use Rattle.tree_put.specs.Large.{need_put}
 use Rattle.tree_search.specs.declared.path.Descent.{Descent}
 use Rattle.tree_search.specs.Search.{Descends, IsDescent, SearchRefused}
 use Rattle.rowid_tree.specs.Steps.{CellWritten, CellRefused, CellPlaced, PlaceRefused, ReplacedFreed, FreeingRefused}
@@ -78,3 +83,20 @@ PutRefused old new root rowid payload fault =
 pub record PutsRow (old new : Pages) (root : ℕ) (rowid : ℤ) (payload : List ℕ) (replaced : Bool) : Type 0 where
   pub each : (roots : List ℕ) (before behind : List Tree) (tree : Tree) (trunks : List Trunk) → IsWholeFor old roots (before ++ tree ∷ behind) trunks
       → root_of tree ≡ root → IsPut old new roots before tree behind trunks rowid payload replaced
+
+-- so many pages, and no fewer, pass the greatest database; where the pages are whole and the tree from the root is one of them, that
+-- many are within those that nothing names, those in use, and what the trees may need with the row
+pub record IsTooLarge (old : Pages) (root : ℕ) (rowid : ℤ) (payload : List ℕ) (page_size pages : ℕ) : Type 0 where
+  pub passes : greatest_length < pages * page_size
+  pub least : (pages - 1) * page_size ≤ greatest_length
+  pub within : (roots : List ℕ) (before behind : List Tree) (tree : Tree) (trunks : List Trunk) → IsWholeFor old roots (before ++ tree ∷ behind) trunks
+      → root_of tree ≡ root → pages ≤ length (missing_in (named_pages roots (before ++ tree ∷ behind) trunks) old.size)
+      + use_of roots (before ++ tree ∷ behind) + need_put old.usable roots before tree behind rowid payload
+
+-- a put is refused as too large only then
+abbrev pub MayBeLarge : Pages → ℕ → ℤ → List ℕ → ℕ → SpaceFault → Type 0
+MayBeLarge old root rowid payload page_size Failed = Unit {0}
+MayBeLarge old root rowid payload page_size Memory = Unit {0}
+MayBeLarge old root rowid payload page_size (Bad page kept found) = Unit {0}
+MayBeLarge old root rowid payload page_size (Corrupt page) = Unit {0}
+MayBeLarge old root rowid payload page_size (Large pages) = IsTooLarge old root rowid payload page_size pages

@@ -3,13 +3,13 @@
 ghost use Rattle.std.specs.Prelude.{◌≤◌, IsTrue, IfOk, IfErr};
 ghost use Rattle.page_pool.specs.Space.{IsWritable, Steady};
 ghost use Rattle.page_pool.specs.Pool.{NotesChange};
-ghost use Rattle.rowid_tree.specs.Puts.{PutDone, PutRefused, PutsRow};
+ghost use Rattle.rowid_tree.specs.Puts.{PutDone, PutRefused, PutsRow, MayBeLarge};
 
 use crate::cell::{free_replaced, write_cell};
 use crate::place::place_cell;
 use page_pool::{PageSpace, SpaceFault};
 use std::alloc::Global;
-use tree_put::put_keeps_whole;
+use tree_put::{put_keeps_whole, put_may_be_large};
 use tree_search::descend;
 
 /// Puts the row of `rowid` with this payload into the tree from page `root`, and answers whether it replaced one.
@@ -30,9 +30,11 @@ pub fn put<S: PageSpace>(
     ensures done { IfOk result (PutDone (S.state space.old) (S.state space.new) root rowid payload.now) }
     ensures puts { IsTrue (S.state space.old).tells → IfOk result (PutsRow (S.state space.old).pages (S.state space.new).pages root rowid payload.now) }
     ensures refused { IfErr result (PutRefused (S.state space.old) (S.state space.new) root rowid payload.now) }
+    ensures large { IsTrue (S.state space.old).tells → IfErr result (MayBeLarge (S.state space.old).pages root rowid payload.now (S.state space.old).page_size) }
     ensures noted { NotesChange (S.state space.old) (S.state space.new) }
 {
     put_keeps_whole();
+    put_may_be_large();
     put_row(alloc, space, root, rowid, payload)
 }
 

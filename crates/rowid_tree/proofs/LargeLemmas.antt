@@ -1,5 +1,5 @@
 -- A put that is refused as too large.
-use Rattle.std.proofs.Common.{◌≡◌, inl, inr, ℕ, ◌+◌, ◌-◌, ◌*◌, ◌≤◌, ◌<◌, ℤ, ◌<ℤ◌, ◌≤ℤ◌, List, length, drop, Option, None, Some, IsTrue, refl, sym, ap, subst, ◌∙◌, arith}
+use Rattle.std.proofs.Common.{◌≡◌, inl, inr, ℕ, ◌+◌, ◌-◌, ◌*◌, ◌≤◌, ◌<◌, ℤ, ◌<ℤ◌, ◌≤ℤ◌, List, length, drop, Option, None, Some, IsTrue, refl, sym, ap, subst, arith}
 use Rattle.db_format.specs.Spill.{local_size}
 use Rattle.db_format.specs.Header.{greatest_length}
 use Rattle.db_format.specs.declared.fault.SpaceFault.{SpaceFault}

@@ -5,3 +5,5 @@ mod RootLemmas
 mod WholeLemmas
 mod AddLemmas
 mod LargeLemmas
+mod CleanLemmas
+mod SoundLemmas

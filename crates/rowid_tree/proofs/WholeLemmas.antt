@@ -32,7 +32,7 @@ chained old new rest first told (inr some) =
       pages_are = wrote.pages_are told ∙ ap (λ (p : Pages). with_chain old.page_size numbers rest p) (wrote.took.pages_are told);
     })
 
-each_written : (old new : Pages) (out : List Sheet) → AllByRecursion (λ sheet. MayStand old sheet → HasCells new sheet.number sheet.cells) out
+pub each_written : (old new : Pages) (out : List Sheet) → AllByRecursion (λ sheet. MayStand old sheet → HasCells new sheet.number sheet.cells) out
     → AllByRecursion (λ sheet. HasPage old sheet.number → Fits sheet.cells sheet.number old.usable → HasCells new sheet.number sheet.cells) out
 each_written old new [] all = tt
 each_written old new (s ∷ more) all = (λ there fits. all.0 (record { there = there; fits = fits }), each_written old new more all.1)

@@ -17,7 +17,7 @@ use Rattle.tree_laws.specs.Whole.{missing_in}
 use Rattle.tree_put.specs.Keeps.{IsPut}
 use Rattle.tree_put.specs.Large.{need_put}
 use Rattle.tree_search.specs.declared.path.Descent.{Descent}
-use Rattle.tree_search.specs.Search.{Descends, IsDescent, SearchRefused}
+use Rattle.tree_search.specs.Search.{Descends, IsDescent, SearchRefused, IsNoDamage}
 use Rattle.rowid_tree.specs.Steps.{CellWritten, CellRefused, CellPlaced, PlaceRefused, ReplacedFreed, FreeingRefused}
 
 -- the search for the rowid found this way, and nothing has changed
@@ -100,3 +100,8 @@ MayBeLarge old root rowid payload page_size Memory = Unit {0}
 MayBeLarge old root rowid payload page_size (Bad page kept found) = Unit {0}
 MayBeLarge old root rowid payload page_size (Corrupt page) = Unit {0}
 MayBeLarge old root rowid payload page_size (Large pages) = IsTooLarge old root rowid payload page_size pages
+
+-- over whole pages, where the tree from the root is one of them, a put that is refused names no page at fault
+pub record IsSoundlyRefused (old : Pages) (root : ℕ) (fault : SpaceFault) : Type 0 where
+  pub each : (roots : List ℕ) (before behind : List Tree) (tree : Tree) (trunks : List Trunk) → IsWholeFor old roots (before ++ tree ∷ behind) trunks
+      → root_of tree ≡ root → IsNoDamage fault

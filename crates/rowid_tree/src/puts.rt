@@ -3,12 +3,15 @@
 ghost use Rattle.std.specs.Prelude.{◌≤◌, IsTrue, IfOk, IfErr};
 ghost use Rattle.page_pool.specs.Space.{IsWritable, Steady};
 ghost use Rattle.page_pool.specs.Pool.{NotesChange};
-ghost use Rattle.rowid_tree.specs.Puts.{PutDone, PutRefused, PutsRow, MayBeLarge};
+ghost use Rattle.rowid_tree.specs.Puts.{PutDone, PutRefused, PutsRow, MayBeLarge, IsSoundlyRefused};
 
 use crate::cell::{free_replaced, write_cell};
 use crate::place::place_cell;
+use db_format::header_in_front;
 use page_pool::{PageSpace, SpaceFault};
 use std::alloc::Global;
+use tree_model::{one_path, path_finds};
+use tree_page::{front_apart, one_page};
 use tree_put::{put_keeps_whole, put_may_be_large};
 use tree_search::descend;
 
@@ -31,10 +34,16 @@ pub fn put<S: PageSpace>(
     ensures puts { IsTrue (S.state space.old).tells → IfOk result (PutsRow (S.state space.old).pages (S.state space.new).pages root rowid payload.now) }
     ensures refused { IfErr result (PutRefused (S.state space.old) (S.state space.new) root rowid payload.now) }
     ensures large { IsTrue (S.state space.old).tells → IfErr result (MayBeLarge (S.state space.old).pages root rowid payload.now (S.state space.old).page_size) }
+    ensures clean { IsTrue (S.state space.old).tells → IfErr result (IsSoundlyRefused (S.state space.old).pages root) }
     ensures noted { NotesChange (S.state space.old) (S.state space.new) }
 {
     put_keeps_whole();
     put_may_be_large();
+    front_apart();
+    header_in_front();
+    one_page();
+    one_path();
+    path_finds();
     put_row(alloc, space, root, rowid, payload)
 }
 

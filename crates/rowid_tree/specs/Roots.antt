@@ -1,8 +1,8 @@
 -- A new root: what it leaves of pages of any bytes.
 -- After sqlite.org, "Database File Format", section 1.6, "B-tree Pages".
-use Rattle.std.specs.Prelude.{◌≡◌, ◌⊎◌, ℕ, List, [], ◌∷◌, ◌++◌, take, IsTrue}
+use Rattle.std.specs.Prelude.{◌≡◌, ◌⊎◌, ℕ, ◌+◌, ◌≤◌, max, List, [], ◌∷◌, ◌++◌, length, take, IsTrue}
 use Rattle.db_format.specs.declared.fault.SpaceFault.{SpaceFault}
-use Rattle.page_list.specs.Pages.{Pages, HasPage, IsGood}
+use Rattle.page_list.specs.Pages.{Pages, HasPage, IsGood, Among}
 use Rattle.page_list.specs.Freelist.{Trunk, HasHead, take_each}
 use Rattle.page_list.specs.Edits.{taken_number, after_take}
 use Rattle.page_pool.specs.Space.{SpaceState}
@@ -10,7 +10,10 @@ use Rattle.page_pool.specs.Pool.{Grows, Taken, TakeRefused}
 use Rattle.payload_chain.specs.Chains.{Midway, midway, OnlyThese, PutRefused}
 use Rattle.tree_page.specs.declared.cell.PageCells.TheVariants.{Leaf as LeafPage}
 use Rattle.tree_model.specs.Tree.{Tree, Leaf}
-use Rattle.tree_model.specs.Whole.{IsWholeFor}
+use Rattle.tree_model.specs.Whole.{IsWholeFor, named_pages}
+use Rattle.tree_model.specs.Need.{use_of}
+use Rattle.tree_laws.specs.Whole.{missing_in}
+use Rattle.tree_put.specs.Keeps.{StaysUnnamed}
 use Rattle.tree_model.specs.Held.{HasCells}
 
 -- a leaf without a row was written to a page: no other page has changed, and page 1 keeps the header of the database
@@ -51,8 +54,18 @@ pub record StopsAtRoot (old new : SpaceState) (fault : SpaceFault) : Type 0 wher
 abbrev pub RootRefused : SpaceState → SpaceState → SpaceFault → Type 0
 RootRefused old new fault = TakeRefused old new fault ⊎ StopsAtRoot old new fault
 
--- over whole pages, whichever roots and trees they have, there is one root more, of a tree without a row; all other trees are the
--- same, and the freelist has lost the page where it had it
+-- A root more in whole pages: they are whole with a tree without a row more; all other trees are the same, and the freelist has lost
+-- the page where it had it. What nothing named stays as it was, no page is lost, and there are no more pages than before, or than
+-- those in use, those that nothing named, and this one
+pub record IsRootAdded (old new : Pages) (number : ℕ) (roots : List ℕ) (trees : List Tree) (trunks : List Trunk) : Type 0 where
+  pub whole : IsWholeFor new (roots ++ number ∷ []) (trees ++ Leaf number [] ∷ []) (take_each 1 trunks)
+  pub unnamed : (n : ℕ) → HasPage old n → ¬ (Among (named_pages roots trees trunks) n)
+      → StaysUnnamed old new (named_pages (roots ++ number ∷ []) (trees ++ Leaf number [] ∷ []) (take_each 1 trunks)) n
+  pub none_lost : (n : ℕ) → HasPage new n → ¬ (Among (named_pages (roots ++ number ∷ []) (trees ++ Leaf number [] ∷ []) (take_each 1 trunks)) n)
+      → HasPage old n × ¬ (Among (named_pages roots trees trunks) n)
+  pub bound : new.size ≤ max old.size (length (missing_in (named_pages roots trees trunks) old.size) + use_of roots trees + 1)
+
+-- over whole pages, whichever roots and trees they have, there is one root more; of any pages there are no fewer
 pub record AddsRoot (old new : Pages) (number : ℕ) : Type 0 where
-  pub each : (roots : List ℕ) (trees : List Tree) (trunks : List Trunk) → IsWholeFor old roots trees trunks
-      → IsWholeFor new (roots ++ number ∷ []) (trees ++ Leaf number [] ∷ []) (take_each 1 trunks)
+  pub no_fewer : old.size ≤ new.size
+  pub each : (roots : List ℕ) (trees : List Tree) (trunks : List Trunk) → IsWholeFor old roots trees trunks → IsRootAdded old new number roots trees trunks

@@ -11,7 +11,7 @@ use page_pool::{PageSpace, SpaceFault, take_page};
 use std::alloc::Global;
 use tree_laws::{header_size, whole_takes};
 use tree_model::root_added;
-use tree_page::{LeafCells, PageCells};
+use tree_page::{LeafCells, PageCells, front_apart};
 use tree_write::write_sheets;
 
 /// Takes a page, and makes it the root of a tree without a row.
@@ -30,6 +30,7 @@ pub fn make_root<S: PageSpace>(alloc: Global, space: &mut S) -> Result<u32, Spac
     whole_takes();
     header_size();
     root_added();
+    front_apart();
     // the space says, when it is asked, that its pages have their sizes
     let _size = space.size();
     take_root(alloc, space)

@@ -9,5 +9,5 @@ returns-clause-adds g c = λ t.
     let old = state c.args.space.now in
     let new = state c.take_root.new.space in
     IfOk-weaker c.take_root.result (RootMade old new) (AddsRoot old.pages new.pages)
-    (λ number made. adds_root c.whole_takes.ensures c.header_size.ensures c.root_added.ensures old new number t c.size-size.ensures.sizes c.take_root.ensures.steady made)
+    (λ number made. adds_root c.whole_takes.ensures c.header_size.ensures c.root_added.ensures c.front_apart.ensures old new number t c.size-size.ensures.sizes c.take_root.ensures.steady made)
     c.take_root.ensures.made

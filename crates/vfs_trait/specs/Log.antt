@@ -97,7 +97,7 @@ level_text Exclusive = codes "exclusive"
 -- a word with these words behind it, each after a blank
 abbrev pub words : List ℕ → List (List ℕ) → List ℕ
 words first [] = first
-words first (word ∷ more) = words (first ++ 32 ∷ word) more
+words first (word ∷ more) = first ++ 32 ∷ words word more
 
 abbrev pub call_text : Call → List ℕ
 call_text (Open name kind) = words (codes "open") (name ∷ kind_text kind ∷ [])

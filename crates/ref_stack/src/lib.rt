@@ -1,11 +1,12 @@
-//! The plain, slow program of what the layers of a stack show and of how a write passes down them, over files in memory.
-//! Its contracts are the definitions of `vfs_model`, and the tests of each layer compare with it.
+//! The plain, slow program of what the layers of a stack show of files in memory. Its contracts are the
+//! definitions of `vfs_model`, and the tests of each layer compare with it.
 #![tactic(auto)]
 
 mod chunk;
 mod files;
 mod glob;
 mod mark;
+mod quota;
 mod shown;
 mod sums;
 
@@ -13,6 +14,7 @@ pub use chunk::chunk_name;
 pub use files::Shown;
 pub use glob::matches;
 pub use mark::{mark_in, next_start, placed};
+pub use quota::group_of;
 pub use shown::{is_bad, through};
 pub use sums::{fails, sum_of, without_sums};
 

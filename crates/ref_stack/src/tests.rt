@@ -1,10 +1,10 @@
 //! Worked examples, by hand and from the formats.
 
-use crate::{chunk_name, fails, is_bad, matches, next_start, placed, sum_of, through};
+use crate::{chunk_name, fails, group_of, is_bad, matches, next_start, placed, sum_of, through};
 use byte_base::Bytes;
 use std::alloc::{AllocError, Global};
 use std::test::Fail;
-use vfs_model::{Layer, Name, Placed};
+use vfs_model::{Group, Layer, Name, Pattern, Placed};
 
 /// So many bytes, each the same.
 fn all(alloc: Global, b: u8, len: usize) -> Result<Bytes, AllocError> {
@@ -120,5 +120,27 @@ fn a_page_keeps_its_sums_to_itself(rt: HostRuntime) -> Result<(), Fail> {
     assert!(rt; is_bad(rt.alloc(), &layers, &files, b"main", 0)?);
     assert!(rt; is_bad(rt.alloc(), &layers, &files, b"main", 512)?);
     assert!(rt; !is_bad(rt.alloc(), &[], &files, b"main", 0)?);
+    Ok(())
+}
+
+#[test]
+fn the_first_group_that_matches_counts(rt: HostRuntime) -> Result<(), Fail> {
+    let groups = [
+        Group {
+            glob: Pattern::new(b"other*").ok_or("a pattern")?,
+            limit: 0,
+        },
+        Group {
+            glob: Pattern::new(b"main*").ok_or("a pattern")?,
+            limit: 1024,
+        },
+        Group {
+            glob: Pattern::new(b"*1").ok_or("a pattern")?,
+            limit: 512,
+        },
+    ];
+    assert!(rt; group_of(&groups, b"main001") == Some(1));
+    assert!(rt; group_of(&groups, b"aux1") == Some(2));
+    assert!(rt; group_of(&groups, b"aux2").is_none());
     Ok(())
 }

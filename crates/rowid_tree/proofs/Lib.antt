@@ -7,3 +7,4 @@ mod AddLemmas
 mod LargeLemmas
 mod CleanLemmas
 mod SoundLemmas
+mod ChangedLemmas

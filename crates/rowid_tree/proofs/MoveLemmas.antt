@@ -190,6 +190,7 @@ placed-moved {b = b} c descent cell replaced m p = record {
   steady = steady-moved m p.steady;
   size = p.size;
   leaves = leaves-moved c p.sheets (Ok tt) (within p.met m) p.leaves;
+  notes = p.notes;
 }
 
 pub place_refused-moved : {a b a' : SpaceState} (c : SpaceState) (descent : Descent) (cell : LeafCell) (fault : SpaceFault) → Moved a b a'

@@ -1,7 +1,8 @@
 -- The steps of a put, joined.
-use Rattle.std.proofs.Common.{◌≡◌, ◌∙◌, refl, ℕ, ℤ, Bool, List, Option, is_some, Ok, Err}
+use Rattle.std.proofs.Common.{◌≡◌, ◌∙◌, refl, inl, inr, IsTrue, ℕ, ℤ, Bool, List, Option, is_some, Ok, Err}
 use Rattle.db_format.specs.declared.fault.SpaceFault.{SpaceFault}
 use Rattle.page_pool.specs.Space.{SpaceState, Steady}
+use Rattle.page_pool.specs.Pool.{NotesChange}
 use Rattle.payload_chain.specs.Chains.{midway}
 use Rattle.payload_chain.specs.Chains.{PutRefused as PagePutRefused, TookEach}
 use Rattle.payload_chain.proofs.StateLemmas.{here, steady-here, steady-on}
@@ -11,11 +12,16 @@ use Rattle.tree_level.specs.Level.{numbers}
 use Rattle.tree_plan.specs.declared.leaf.LeafPlan.{LeafPlan}
 use Rattle.tree_plan.specs.Plan.{IsLeafPlan}
 use Rattle.tree_write.specs.Climb.{Climbed}
-use Rattle.tree_write.specs.Write.{WriteLeaves}
+use Rattle.tree_write.specs.Write.{WriteLeaves, NotesSheets}
 use Rattle.tree_search.specs.declared.path.Descent.{Descent}
 use Rattle.rowid_tree.specs.Steps.{CellWritten, CellRefused, CellPlaced, StopsWriting, PlaceRefused, ReplacedFreed, FreeingRefused}
 use Rattle.rowid_tree.specs.Puts.{WayFound, WroteCell, PlacedCell, PutDone, StopsAtCell, StopsAtLeaf, StopsAtChain}
 use Rattle.rowid_tree.proofs.MoveLemmas.{moved-midway, moved-to, steady-moved, cell-moved, cell_refused-moved, placed-moved, put_refused-moved, place_refused-moved, freed-moved, freeing_refused-moved}
+
+-- where the space said that it was changed, it still does
+still_changed : (a b : SpaceState) → NotesChange a b → IsTrue a.changed → IsTrue b.changed
+still_changed a b (inl is) was = is
+still_changed a b (inr stays) was = stays.change ∙ was
 
 took-here : {a b : SpaceState} {count : ℕ} → TookEach a b count → TookEach a (midway a (here b)) count
 took-here took = record { steady = steady-here took.steady; no_fewer = took.no_fewer; no_more = took.no_more; may = took.may; pages_are = took.pages_are }
@@ -47,9 +53,9 @@ placed_here {c = c} {d = d} {descent = descent} {cell = cell} {was = was} way wr
 }
 
 pub put_done : {a b c d e : SpaceState} {root : ℕ} {rowid : ℤ} {payload : List ℕ} {descent : Descent} {cell : LeafCell} {was : Option LeafCell} {replaced : Bool}
-    → WayFound a b root rowid descent → CellWritten b c rowid payload cell → CellPlaced c d descent cell was → Steady d e → ReplacedFreed d e was → replaced ≡ is_some was
+    → WayFound a b root rowid descent → CellWritten b c rowid payload cell → CellPlaced c d descent cell was → Steady d e → ReplacedFreed d e was → NotesChange d e → replaced ≡ is_some was
     → PutDone a e root rowid payload replaced
-put_done {d = d} {e = e} {was = was} way wrote placed steady freed told =
+put_done {d = d} {e = e} {was = was} way wrote placed steady freed noted told =
     let before = steady-on (steady-on way.steady wrote.steady) placed.steady in
     let moved = moved-to before (steady-on before steady) in
     record {
@@ -58,6 +64,7 @@ put_done {d = d} {e = e} {was = was} way wrote placed steady freed told =
       before = placed_here way wrote placed;
       steady = steady-moved moved steady;
       freed = freed-moved e was moved freed;
+      noted = still_changed d e noted;
       told = told;
     }
 
@@ -97,8 +104,8 @@ stops_at_chain {d = d} {e = e} {was = was} fault way wrote placed steady refused
 -- a cell put into its leaf: planned, climbed and written
 pub cell_placed : {a b c : SpaceState} (descent : Descent) (cell : LeafCell) (plan : LeafPlan) (sheets : List Sheet) → IsLeafPlan descent.leaf a.pages.usable descent.cells cell plan
     → Climbed a b descent.leaf plan.sheets descent.levels.items sheets → Steady a b → Steady b c → c.pages.size ≡ b.pages.size → WriteLeaves b c sheets (Ok tt)
-    → CellPlaced a c descent cell plan.replaced
-cell_placed {a = a} {b = b} {c = c} descent cell plan sheets planned climbed before steady size leaves = record {
+    → NotesSheets b c sheets → CellPlaced a c descent cell plan.replaced
+cell_placed {a = a} {b = b} {c = c} descent cell plan sheets planned climbed before steady size leaves notes = record {
   plan = plan;
   planned = planned;
   replaced_is = refl;
@@ -108,6 +115,7 @@ cell_placed {a = a} {b = b} {c = c} descent cell plan sheets planned climbed bef
   steady = steady-on before steady;
   size = size;
   leaves = λ t. leaves (before.told ∙ t);
+  notes = notes;
 }
 
 pub stops_writing : {a b c : SpaceState} (descent : Descent) (cell : LeafCell) (plan : LeafPlan) (sheets : List Sheet) (fault : SpaceFault)

@@ -79,7 +79,7 @@ cell_clean front_apart old new root key payload roots trees trunks fault told wh
     ]
 
 -- pages were taken for what is to be written
-record Climbing (page_size : ℕ) (old chained : Pages) (root : ℕ) (key : ℤ) (payload : List ℕ) (levels : List Level) (leaf : ℕ) (cells : List LeafCell) (cell : LeafCell)
+pub record Climbing (page_size : ℕ) (old chained : Pages) (root : ℕ) (key : ℤ) (payload : List ℕ) (levels : List Level) (leaf : ℕ) (cells : List LeafCell) (cell : LeafCell)
     (plan : LeafPlan) (count : ℕ) (out : List Sheet) : Type 0 where
   pub size_of_page : IsPageSize page_size
   pub spare : page_size ≤ old.usable + 255
@@ -94,7 +94,7 @@ record Climbing (page_size : ℕ) (old chained : Pages) (root : ℕ) (key : ℤ)
   pub few : (after_takes page_size count chained).size * page_size ≤ greatest_length
   pub climbed : AreClimbed old.usable leaf plan.sheets (reverse levels) (taken_numbers page_size count chained) out
 
-climbing : (old : SpaceState) (written met : Midway) (root : ℕ) (key : ℤ) (payload : List ℕ) (descent : Descent) (cell : LeafCell) (plan : LeafPlan) (out : List Sheet)
+pub climbing : (old : SpaceState) (written met : Midway) (root : ℕ) (key : ℤ) (payload : List ℕ) (descent : Descent) (cell : LeafCell) (plan : LeafPlan) (out : List Sheet)
     → IsTrue old.tells → below_all <ℤ key → key ≤ℤ greatest → (w : WroteCell old (midway old written) root key payload descent cell)
     → IsLeafPlan descent.leaf written.pages.usable descent.cells cell plan
     → (c : Climbed (midway old written) (midway old met) descent.leaf plan.sheets descent.levels.items out)
@@ -122,7 +122,7 @@ climbing old written met root key payload descent cell plan out told above below
     }
 
 -- what these pages are then
-record Grown (page_size : ℕ) (old chained : Pages) (payload : List ℕ) (cell : LeafCell) (plan : LeafPlan) (count : ℕ) (out : List Sheet) (roots : List ℕ)
+pub record Grown (page_size : ℕ) (old chained : Pages) (payload : List ℕ) (cell : LeafCell) (plan : LeafPlan) (count : ℕ) (out : List Sheet) (roots : List ℕ)
     (before : List Tree) (tree : Tree) (behind : List Tree) (trunks left : List Trunk) : Type 0 where
   pub made_ready : Prepared page_size count old chained (drop (local_size old.usable (length payload)) payload) cell.overflow roots before tree behind trunks left
   pub climb : IsClimb (after_takes page_size count chained) roots before tree behind left cell plan (taken_numbers page_size count chained) out
@@ -130,10 +130,10 @@ record Grown (page_size : ℕ) (old chained : Pages) (payload : List ℕ) (cell 
       (record { cell = cell; chain = chain_numbers page_size old (drop (local_size old.usable (length payload)) payload); payload = payload })
   pub taken_good : (n : ℕ) → Among (taken_numbers page_size count chained) n → IsGood (after_takes page_size count chained) n
 
-abbrev left_of : ℕ → Pages → List ℕ → List Trunk → List Trunk
+abbrev pub left_of : ℕ → Pages → List ℕ → List Trunk → List Trunk
 left_of count old payload trunks = take_each count (take_each (chain_count old (drop (local_size old.usable (length payload)) payload)) trunks)
 
-grown : FrontApart → OnePage → (page_size : ℕ) (old mid : Pages) (root : ℕ) (key : ℤ) (payload : List ℕ) (levels : List Level) (leaf : ℕ) (cells : List LeafCell)
+pub grown : FrontApart → OnePage → (page_size : ℕ) (old mid : Pages) (root : ℕ) (key : ℤ) (payload : List ℕ) (levels : List Level) (leaf : ℕ) (cells : List LeafCell)
     (cell : LeafCell) (plan : LeafPlan) (count : ℕ) (out : List Sheet) (roots : List ℕ) (before behind : List Tree) (tree : Tree) (trunks : List Trunk)
     → Climbing page_size old mid root key payload levels leaf cells cell plan count out → IsWholeFor old roots (before ++ tree ∷ behind) trunks → root_of tree ≡ root
     → Grown page_size old mid payload cell plan count out roots before tree behind trunks (left_of count old payload trunks)

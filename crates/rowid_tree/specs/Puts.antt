@@ -48,6 +48,7 @@ pub record PutDone (old new : SpaceState) (root : ℕ) (rowid : ℤ) (payload : 
   pub before : PlacedCell old (midway old placed) root rowid payload was
   pub steady : Steady (midway old placed) new
   pub freed : ReplacedFreed (midway old placed) new was
+  pub noted : IsTrue placed.changed → IsTrue new.changed
   pub told : replaced ≡ is_some was
 
 -- the way was found, and the cell was not written
@@ -105,3 +106,13 @@ MayBeLarge old root rowid payload page_size (Large pages) = IsTooLarge old root 
 pub record IsSoundlyRefused (old : Pages) (root : ℕ) (fault : SpaceFault) : Type 0 where
   pub each : (roots : List ℕ) (before behind : List Tree) (tree : Tree) (trunks : List Trunk) → IsWholeFor old roots (before ++ tree ∷ behind) trunks
       → root_of tree ≡ root → IsNoDamage fault
+
+-- the pages are whole for some roots, and the tree from this root is one of theirs
+pub record HasWholeTree (pages : Pages) (root : ℕ) : Type 0 where
+  pub roots : List ℕ
+  pub before : List Tree
+  pub tree : Tree
+  pub behind : List Tree
+  pub trunks : List Trunk
+  pub whole : IsWholeFor pages roots (before ++ tree ∷ behind) trunks
+  pub rooted : root_of tree ≡ root

@@ -15,7 +15,7 @@ use Rattle.tree_plan.specs.declared.leaf.LeafPlan.{LeafPlan}
 use Rattle.tree_plan.specs.Plan.{IsLeafPlan}
 use Rattle.tree_search.specs.declared.path.Descent.{Descent}
 use Rattle.tree_write.specs.Climb.{Climbed, ClimbRefused}
-use Rattle.tree_write.specs.Write.{WriteLeaves}
+use Rattle.tree_write.specs.Write.{WriteLeaves, NotesSheets}
 
 -- what of a payload its cell keeps, and the rest
 abbrev pub local_part : ℕ → List ℕ → List ℕ
@@ -56,6 +56,7 @@ pub record CellPlaced (old new : SpaceState) (descent : Descent) (cell : LeafCel
   pub steady : Steady old new
   pub size : new.pages.size ≡ met.pages.size
   pub leaves : WriteLeaves (midway old met) new sheets (Ok tt)
+  pub notes : NotesSheets (midway old met) new sheets
 
 -- some of the pages were taken, and the next take was refused, or there was no memory
 pub record StopsClimbing (old new : SpaceState) (descent : Descent) (cell : LeafCell) (fault : SpaceFault) : Type 0 where

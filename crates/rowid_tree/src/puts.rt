@@ -3,7 +3,7 @@
 ghost use Rattle.std.specs.Prelude.{◌≤◌, IsTrue, IfOk, IfErr};
 ghost use Rattle.page_pool.specs.Space.{IsWritable, Steady};
 ghost use Rattle.page_pool.specs.Pool.{NotesChange};
-ghost use Rattle.rowid_tree.specs.Puts.{PutDone, PutRefused, PutsRow, MayBeLarge, IsSoundlyRefused};
+ghost use Rattle.rowid_tree.specs.Puts.{PutDone, PutRefused, PutsRow, MayBeLarge, IsSoundlyRefused, HasWholeTree};
 
 use crate::cell::{free_replaced, write_cell};
 use crate::place::place_cell;
@@ -34,6 +34,7 @@ pub fn put<S: PageSpace>(
     ensures puts { IsTrue (S.state space.old).tells → IfOk result (PutsRow (S.state space.old).pages (S.state space.new).pages root rowid payload.now) }
     ensures refused { IfErr result (PutRefused (S.state space.old) (S.state space.new) root rowid payload.now) }
     ensures large { IsTrue (S.state space.old).tells → IfErr result (MayBeLarge (S.state space.old).pages root rowid payload.now (S.state space.old).page_size) }
+    ensures changed { IfOk result (λ _. IsTrue (S.state space.old).tells → HasWholeTree (S.state space.old).pages root → IsTrue (S.state space.new).changed) }
     ensures clean { IsTrue (S.state space.old).tells → IfErr result (IsSoundlyRefused (S.state space.old).pages root) }
     ensures noted { NotesChange (S.state space.old) (S.state space.new) }
 {

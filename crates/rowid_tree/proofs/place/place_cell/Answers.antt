@@ -36,7 +36,7 @@ returns-clause-placed g c =
     cell_placed {a = old} {b = state c.climb.new.space} {c = state c.write_sheets.new.space} d c.args.cell c.in_ok-sheets.field-0 c.in_ok-sheets-2.sheets.items
     (subst P c.usable.ensures.value c.in_ok-sheets.ensures)
     c.in_ok-sheets-2.ensures.climbed c.in_ok-sheets-2.ensures.steady c.in_ok-write_sheets.ensures.steady c.in_ok-write_sheets.ensures.size
-    (rw c.deref.ensures.value at c.in_ok-write_sheets.ensures.leaves)
+    (rw c.deref.ensures.value at c.in_ok-write_sheets.ensures.leaves) (rw c.deref.ensures.value at c.in_ok-write_sheets.ensures.changed)
 
 pub returns-clause-kept : goal.returns-clause-kept
 returns-clause-kept g c =

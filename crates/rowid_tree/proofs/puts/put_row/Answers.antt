@@ -99,7 +99,7 @@ returns-clause-done g c =
     let way : WayFound old (state c.descend.new.space) c.args.root c.args.rowid d =
     record { steady = c.in_ok-descent.ensures.steady; stays = c.in_ok-descent.ensures.stays; found = found; sound = c.in_ok-descent.ensures.sound } in
     let wrote : CellWritten (state c.descend.new.space) (state c.write_cell.new.space) c.args.rowid c.args.payload.now c.in_ok-cell.cell = simp to_z-of_z at c.in_ok-cell.ensures.written in
-    put_done way wrote c.in_ok-replaced.ensures.placed c.in_ok-free_replaced.ensures.steady c.in_ok-free_replaced.ensures.freed c.is_some.ensures
+    put_done way wrote c.in_ok-replaced.ensures.placed c.in_ok-free_replaced.ensures.steady c.in_ok-free_replaced.ensures.freed c.in_ok-free_replaced.ensures.noted c.is_some.ensures
 
 pub returns-clause-noted : goal.returns-clause-noted
 returns-clause-noted g c =

@@ -48,6 +48,7 @@ pub record PutDone (old new : SpaceState) (root : ℕ) (rowid : ℤ) (payload : 
   pub before : PlacedCell old (midway old placed) root rowid payload was
   pub steady : Steady (midway old placed) new
   pub freed : ReplacedFreed (midway old placed) new was
+  -- where the space said before this that it was changed, it still does
   pub noted : IsTrue placed.changed → IsTrue new.changed
   pub told : replaced ≡ is_some was
 

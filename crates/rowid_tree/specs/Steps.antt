@@ -56,6 +56,7 @@ pub record CellPlaced (old new : SpaceState) (descent : Descent) (cell : LeafCel
   pub steady : Steady old new
   pub size : new.pages.size ≡ met.pages.size
   pub leaves : WriteLeaves (midway old met) new sheets (Ok tt)
+  -- the space says that it was changed where one of the sheets may stand
   pub notes : NotesSheets (midway old met) new sheets
 
 -- some of the pages were taken, and the next take was refused, or there was no memory

@@ -241,3 +241,20 @@ fn see_puts(
     }
     Ok(())
 }
+
+#[test]
+fn long_rows_stand_in_whole_trees(rt: HostRuntime) -> Result<(), Fail> {
+    let mut space = database(&rt, rt.alloc(), 512, 32)?;
+    assert!(rt; space.size() > 0);
+    let root = make_root(rt.alloc(), &mut space)?;
+    let mut rows = Vec::new(rt.alloc());
+    for (rowid, len) in [(1, 66_000), (2, 0), (1, 3), (3, 66_000), (2, 478)] {
+        let payload = payload_of(rt.alloc(), rowid, len)?;
+        let replaces = put_listed(&mut rows, rowid, len)?;
+        for root in [1, root] {
+            assert!(rt; put_row(&rt, rt.alloc(), &mut space, root, rowid, &payload)? == replaces);
+        }
+        see_whole(&rt, rt.alloc(), &mut space, &[1, root], &rows)?;
+    }
+    Ok(())
+}

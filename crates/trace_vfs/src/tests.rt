@@ -1,33 +1,53 @@
-//! What a layer keeps, as lines.
+//! What a recorder keeps, as lines.
 
-use crate::Trace;
-use mem_vfs::SureVfs;
+use crate::recorder::Recorder;
 use std::alloc::Global;
 use std::process::Abort;
 use std::test::Fail;
-use vfs_model::{Level, Name, Owner};
-use vfs_trait::{Answer, Control, Vfs};
+use vfs_model::{Fid, Level, Name, Owner};
+use vfs_trait::{Call, Outcome, VfsFault};
 
-/// The lines that a layer with so much room keeps of four calls, and how many went out.
+/// The lines that a recorder with so much room keeps of five calls, and how many went out.
 fn check(
     rt: &impl Abort,
     alloc: Global,
-    room: u32,
+    room: usize,
     dropped: u64,
     expected: &[&str],
 ) -> Result<(), Fail> {
-    let Ok(mut layer) = Trace::new(alloc, SureVfs::new(alloc)?, room) else {
-        return Err("memory")?;
-    };
+    let fid = Fid(0);
     let name = Name::new(b"main").ok_or("a name")?;
     let owner = Owner::new(1).ok_or("an owner")?;
-    let fid = layer.open(&name, name.kind())?;
-    layer.write(fid, 0, &[7; 512])?;
-    layer.length(fid)?;
-    layer.lock(fid, owner, Level::Shared)?;
-    let Answer::Trace(list) = layer.control(Control::TakeTrace { layer: 1 })? else {
-        return Err("no lines")?;
+    let level = Level::Shared;
+    let full = VfsFault::Full {
+        total: 4096,
+        limit: 4000,
     };
+    let calls = [
+        (
+            Call::Open {
+                name,
+                kind: name.kind(),
+            },
+            Outcome::Fid(fid),
+        ),
+        (
+            Call::Write {
+                fid,
+                off: 512,
+                len: 1024,
+            },
+            Outcome::Fault(full),
+        ),
+        (Call::Length { fid }, Outcome::Len(512)),
+        (Call::Lock { fid, owner, level }, Outcome::Ok),
+        (Call::Exists { name }, Outcome::Yes),
+    ];
+    let mut recorder = Recorder::new(alloc, room)?;
+    for (call, outcome) in calls {
+        recorder.record(call, outcome);
+    }
+    let list = recorder.take()?;
     assert!(rt; list.dropped == dropped);
     assert!(rt; list.lines.as_slice().len() == expected.len());
     for (line, text) in list.lines.as_slice().iter().zip(expected) {
@@ -40,10 +60,11 @@ fn check(
 fn the_last_calls_are_kept(rt: HostRuntime) -> Result<(), Fail> {
     let all = [
         "call 1 open main main = fid 0",
-        "call 2 write 0 0 512 = ok",
+        "call 2 write 0 512 1024 = full 4096 4000",
         "call 3 length 0 = len 512",
         "call 4 lock 0 1 shared = ok",
+        "call 5 exists main = yes",
     ];
     check(&rt, rt.alloc(), 4096, 0, &all)?;
-    check(&rt, rt.alloc(), 2, 2, &all[2..])
+    check(&rt, rt.alloc(), 2, 3, &all[3..])
 }

@@ -15,8 +15,8 @@ import tempfile
 
 from sqlite_files import program, run, sqlite
 
-SPACES = [(512, 0), (512, 32), (1024, 8), (4096, 0)]  # the size of a page, and how much of it is reserved
-ROWS = 300
+# the size of a page, how much of it is reserved, and about how many puts: what `rt try` lets a program print is 1 MiB
+SPACES = [(512, 0, 350), (512, 32, 350), (1024, 8, 350), (4096, 0, 70)]
 
 PROGRAM = """//! Made by bench/trees_against_sqlite.py.
 #![tactic(auto)]
@@ -114,10 +114,11 @@ def blob(length, seed):
     return bytes((seed * 31 + at * 7) % 251 for at in range(length))
 
 
-def puts(rng, size):
+def puts(rng, size, count):
     """Rows in rising, falling and scattered order; some rowids come again, with another payload."""
     found = []
-    for order in (range(ROWS // 3), range(2 * ROWS // 3, ROWS // 3, -1), [rng.randrange(-ROWS, ROWS) for _ in range(ROWS // 2)]):
+    third, most = count * 2 // 7, count * 6 // 7
+    for order in (range(third), range(2 * third, third, -1), [rng.randrange(-most, most) for _ in range(most // 2)]):
         for at in order:
             length = rng.choice([0, 1, 5, 40, size // 5, size - 60, size, 3 * size, rng.randrange(4 * size)])
             found.append((rng.randrange(2), at * 3, length, rng.randrange(1000)))
@@ -127,8 +128,8 @@ def puts(rng, size):
     return found
 
 
-def compare(rng, size, reserved):
-    rows = puts(rng, size)
+def compare(rng, size, reserved, count):
+    rows = puts(rng, size, count)
     source = PROGRAM.replace("@SIZE@", str(size)).replace("@RESERVED@", str(reserved))
     source = source.replace("@PUTS@", ", ".join(f"({t}, {r}, {n}, {s})" for t, r, n, s in rows))
     with tempfile.TemporaryDirectory() as folder:
@@ -152,8 +153,8 @@ def main():
     if shutil.which("sqlite3") is None:
         sys.exit("sqlite3 is not here: nothing was compared")
     rng = random.Random(7)
-    for size, reserved in SPACES:
-        compare(rng, size, reserved)
+    for size, reserved, count in SPACES:
+        compare(rng, size, reserved, count)
 
 
 main()

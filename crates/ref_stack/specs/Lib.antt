@@ -1,3 +1,4 @@
 pub mod Brackets
+pub mod Near
 pub mod Pages
 pub mod Seen

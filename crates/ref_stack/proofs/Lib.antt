@@ -1,3 +1,4 @@
 pub mod GlobLemmas
 pub mod ShownLemmas
 pub mod SumLemmas
+pub mod QuotaLemmas

@@ -2,6 +2,7 @@
 //! definitions of `vfs_model`, and the tests of each layer compare with it.
 #![tactic(auto)]
 
+mod append;
 mod chunk;
 mod files;
 mod glob;
@@ -16,7 +17,7 @@ pub use files::Shown;
 pub use glob::matches;
 pub use mark::{mark_in, next_start, placed};
 pub use open::{OpenFile, OpenFiles};
-pub use quota::group_of;
+pub use quota::{Limits, group_of};
 pub use shown::{is_bad, through};
 pub use sums::{fails, sum_of, without_sums};
 

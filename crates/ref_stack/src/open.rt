@@ -203,11 +203,7 @@ pub fn reached(
 }
 
 /// The open files with the place of one settled.
-pub fn settled_at(
-    alloc: Global,
-    name: &[u8],
-    files: &[OpenFile],
-) -> Result<OpenFiles, AllocError>
+pub fn settled_at(alloc: Global, name: &[u8], files: &[OpenFile]) -> Result<OpenFiles, AllocError>
     ensures { IfOk result (λ after. after ≡ settled_at name.now files.now) }
 {
     let Some((first, more)) = files.split_first() else {

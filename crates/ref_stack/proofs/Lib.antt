@@ -2,3 +2,4 @@ pub mod GlobLemmas
 pub mod ShownLemmas
 pub mod SumLemmas
 pub mod QuotaLemmas
+pub mod PassLemmas

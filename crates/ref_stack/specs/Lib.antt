@@ -1,4 +1,5 @@
 pub mod Brackets
 pub mod Near
 pub mod Pages
+pub mod Passed
 pub mod Seen

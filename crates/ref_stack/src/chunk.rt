@@ -7,6 +7,9 @@ use byte_base::Bytes;
 use itoa::Buffer;
 use std::alloc::{AllocError, Global};
 
+/// The most chunks of a file.
+pub const MOST_CHUNKS: u32 = 100_000;
+
 /// The name of the file that holds a chunk: that of the whole file for the first, and else with the number behind it, in
 /// three digits at least.
 pub fn chunk_name(alloc: Global, name: &[u8], number: u32) -> Result<Bytes, AllocError>

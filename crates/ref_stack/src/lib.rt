@@ -11,6 +11,7 @@ mod open;
 mod quota;
 mod shown;
 mod sums;
+mod write;
 
 pub use chunk::chunk_name;
 pub use files::Shown;
@@ -20,6 +21,7 @@ pub use open::{OpenFile, OpenFiles};
 pub use quota::{Limits, group_of};
 pub use shown::{is_bad, through};
 pub use sums::{fails, sum_of, without_sums};
+pub use write::{Passing, pass};
 
 #[cfg(test)]
 mod tests;

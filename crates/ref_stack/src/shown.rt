@@ -7,16 +7,13 @@ ghost use Rattle.vfs_model.specs.Sums.{without_sums};
 ghost use Rattle.vfs_model.specs.View.{through, in_chunks, bytes_from, most_chunks};
 ghost use Rattle.ref_stack.specs.Seen.{files_of, Shows, IsOfMain};
 
-use crate::chunk::chunk_name;
+use crate::chunk::{MOST_CHUNKS, chunk_name};
 use crate::files::{Shown, file_in};
 use crate::mark::shown_at;
 use crate::sums::{fails, without_sums};
 use byte_base::Bytes;
 use std::alloc::{AllocError, Global};
 use vfs_model::{Kind, Layer, Name, kind_of};
-
-/// The most chunks of a file.
-const MOST_CHUNKS: u32 = 100_000;
 
 /// What a stack of layers, the top one first, shows of the file of a name.
 #[cycle(views)]

@@ -3,3 +3,4 @@ pub mod ShownLemmas
 pub mod SumLemmas
 pub mod QuotaLemmas
 pub mod PassLemmas
+pub mod LengthLemmas

@@ -1,7 +1,8 @@
 //! The mark at the end of a file that has a database behind other content.
 
-ghost use Rattle.std.specs.Prelude.{◌≡◌, ◌-◌, ◌≤◌, length, take, drop};
+ghost use Rattle.std.specs.Prelude.{◌≡◌, ◌+◌, ◌-◌, ◌≤◌, length, take, drop, IfSome};
 ghost use Rattle.vfs_model.specs.Mark.{mark_in, placed, is_mark, has_header, next_start, shown_at, mark_size};
+ghost use Rattle.ref_stack.specs.Near.{IsNear};
 
 use byteorder::{BigEndian, ByteOrder};
 use vfs_model::Placed;
@@ -18,7 +19,8 @@ const GREATEST_FILE: u64 = 4_294_967_296;
 /// Where the database begins in a file of this length, as its last bytes say.
 #[tactic(auto, unfolding(byte_base::specs::Numbers::number_at))]
 pub fn mark_in(tail: &[u8], len: u64) -> Option<u64>
-    ensures { result ≡ mark_in tail.now len }
+    ensures value { result ≡ mark_in tail.now len }
+    ensures within { IfSome result (λ start. start + mark_size ≤ len) }
 {
     if tail.len() != MARK_SIZE || !tail.starts_with(MARK_TEXT) || len % 512 != 25 {
         return None;
@@ -32,7 +34,8 @@ pub fn mark_in(tail: &[u8], len: u64) -> Option<u64>
 
 /// How an append layer opens a file with these bytes.
 pub fn placed(bytes: &[u8]) -> Placed
-    ensures { result ≡ placed bytes.now }
+    ensures value { result ≡ placed bytes.now }
+    ensures near { IsNear result }
 {
     let len = bytes.len() as u64;
     if len == 0 || len > GREATEST_FILE {

@@ -6,10 +6,7 @@ use Rattle.vfs_model.specs.View.{chunk_name, most_chunks}
 use Rattle.vfs_model.specs.Pass.{chunk_names}
 use Rattle.ref_stack.specs.declared.files.Shown.{Shown}
 use Rattle.ref_stack.specs.Seen.{Shows}
-
-left_more : (number : ℕ) → number < 100000 → most_chunks - number ≡ suc (most_chunks - (number + 1))
-unfolding most_chunks
-left_more number few = omega (arith, few)
+use Rattle.ref_stack.proofs.ShownLemmas.{left_more}
 
 pub names_over : (number chunk : ℕ) (files : Files) (name : List ℕ) → 100000 ≤ number → chunk_names (most_chunks - number) chunk files name number ≡ []
 unfolding most_chunks chunk_names

@@ -3,10 +3,7 @@ use Rattle.std.proofs.Common.{◌≡◌, ℕ, zero, suc, ◌+◌, ◌-◌, ◌*�
 use Rattle.std.proofs.lemmas.Bool.{le-leb, lt-leb}
 use Rattle.vfs_model.specs.View.{chunk_name, most_chunks}
 use Rattle.vfs_model.specs.Pass.{Lengths, Passing, Passes, then_pass, by_chunks}
-
-left_more : (number : ℕ) → number < 100000 → most_chunks - number ≡ suc (most_chunks - (number + 1))
-unfolding most_chunks
-left_more number few = omega (arith, few)
+use Rattle.ref_stack.proofs.ShownLemmas.{left_more}
 
 pub chunks_over : (below : Lengths → List ℕ → ℕ → ℕ → Passing) (number chunk off end : ℕ) (name : List ℕ) (lengths : Lengths) → 100000 ≤ number →
     by_chunks below (most_chunks - number) chunk name number off end lengths ≡ Passes lengths

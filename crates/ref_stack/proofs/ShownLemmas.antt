@@ -22,7 +22,7 @@ none_bad [] name place = refl
 none_bad (file ∷ more) name place = good_either (bytes_eq file.0 name) (plain true file.1) (files_of more name) place refl (none_bad more name place)
 
 -- the chunks that are left
-left_more : (number : ℕ) → number < 100000 → most_chunks - number ≡ suc (most_chunks - (number + 1))
+pub left_more : (number : ℕ) → number < 100000 → most_chunks - number ≡ suc (most_chunks - (number + 1))
 unfolding most_chunks
 left_more number few = omega (arith, few)
 

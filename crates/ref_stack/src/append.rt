@@ -1,9 +1,7 @@
 //! Writes below an append layer.
 
-ghost use Rattle.std.specs.Prelude.{◌≡◌, ◌+◌, ◌≤◌};
+ghost use Rattle.std.specs.Prelude.{◌≡◌, ◌+◌, ◌≤◌, IfOk};
 ghost use Rattle.vfs_model.specs.Pass.{shifted, append_says, placed_then};
-ghost use Rattle.vfs_model.specs.Pass.{len_at};
-ghost use Rattle.std.specs.Prelude.{nat_lt, IfOk};
 ghost use Rattle.ref_stack.specs.Near.{IsNear};
 
 use crate::mark::next_start;

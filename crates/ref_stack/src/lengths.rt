@@ -6,6 +6,7 @@ ghost use Rattle.vfs_model.specs.Pass.{chunk_names, all_chunks, appended_files, 
 ghost use Rattle.ref_stack.specs.Seen.{files_of};
 
 use crate::chunk::{MOST_CHUNKS, chunk_name};
+use crate::front::in_front;
 use crate::mark::placed;
 use crate::open::{OpenFile, OpenFiles};
 use crate::shown::through;
@@ -34,22 +35,13 @@ pub fn lengths_shown(
         }
         Layer::Append => {
             let own = appended_files(alloc, layers, below, files, names)?;
-            on_top(own, lengths_shown(alloc, below, files, names)?)
+            in_front(own, lengths_shown(alloc, below, files, names)?)
         }
         Layer::Quota { .. } => {
             let own = counted_files(alloc, below, files, names)?;
-            on_top(own, lengths_shown(alloc, below, files, names)?)
+            in_front(own, lengths_shown(alloc, below, files, names)?)
         }
     }
-}
-
-/// The open files of a layer, and then those of the layers below it.
-fn on_top(own: OpenFiles, below: Vec<OpenFiles>) -> Result<Vec<OpenFiles>, AllocError>
-    ensures { IfOk result (λ all. all.items ≡ own ∷ below.items) }
-{
-    let mut all = below;
-    all.insert(0, own)?;
-    Ok(all)
 }
 
 /// The open files of an append layer with the layers below it, as all of these and those below show them.
@@ -135,13 +127,4 @@ fn chunk_names(
     }
     let more = chunk_names(alloc, chunk, below, files, name, number + 1)?;
     in_front(own, more)
-}
-
-/// A name in front of others.
-fn in_front(name: Bytes, more: Vec<Bytes>) -> Result<Vec<Bytes>, AllocError>
-    ensures { IfOk result (λ all. all.items ≡ name ∷ more.items) }
-{
-    let mut all = more;
-    all.insert(0, name)?;
-    Ok(all)
 }

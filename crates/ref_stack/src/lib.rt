@@ -5,6 +5,7 @@
 mod append;
 mod chunk;
 mod files;
+mod front;
 mod glob;
 mod lengths;
 mod mark;

@@ -4,6 +4,7 @@ ghost use Rattle.std.specs.Prelude.{◌≡◌, ℕ, List, [], ◌∷◌, max, If
 ghost use Rattle.vfs_model.specs.Pass.{len_at, place_at, settled, reached, settled_at, same_name};
 ghost use Rattle.ref_stack.specs.Near.{IsNear};
 
+use crate::front::in_front;
 use crate::mark::next_start;
 use byte_base::Bytes;
 use std::alloc::{AllocError, Global};
@@ -133,9 +134,7 @@ impl OpenFiles {
     pub fn behind(self, first: OpenFile) -> Result<OpenFiles, AllocError>
         ensures { IfOk result (λ files. files ≡ first ∷ self) }
     {
-        let mut files = self.files;
-        files.insert(0, first)?;
-        Ok(OpenFiles { files })
+        Ok(OpenFiles::from_vec(in_front(first, self.files)?))
     }
 }
 

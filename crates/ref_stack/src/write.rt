@@ -8,6 +8,7 @@ ghost use Rattle.ref_stack.specs.Passed.{way_of};
 
 use crate::append::{append_says, placed_then, shifted};
 use crate::chunk::{MOST_CHUNKS, chunk_name};
+use crate::front::in_front;
 use crate::open::{OpenFiles, copy_of, len_at, place_at, reached};
 use crate::quota::{Limits, quota_says};
 use std::alloc::{AllocError, Global};
@@ -34,9 +35,7 @@ fn copies(alloc: Global, lengths: &[OpenFiles]) -> Result<Vec<OpenFiles>, AllocE
     let Some((first, more)) = lengths.split_first() else {
         return Ok(Vec::new(alloc));
     };
-    let mut all = copies(alloc, more)?;
-    all.insert(0, copy_of(alloc, first.as_slice())?)?;
-    Ok(all)
+    in_front(copy_of(alloc, first.as_slice())?, copies(alloc, more)?)
 }
 
 /// A write that passed, or did not, below a layer with these open files.
@@ -44,11 +43,7 @@ fn on_top(files: OpenFiles, passing: Passing) -> Result<Passing, AllocError>
     ensures { IfOk result (λ above. way_of above ≡ on_top files (way_of passing)) }
 {
     match passing {
-        Passing::Passes(lengths) => {
-            let mut all = lengths;
-            all.insert(0, files)?;
-            Ok(Passing::Passes(all))
-        }
+        Passing::Passes(lengths) => Ok(Passing::Passes(in_front(files, lengths)?)),
         Passing::IsFull { total, limit } => Ok(Passing::IsFull { total, limit }),
     }
 }

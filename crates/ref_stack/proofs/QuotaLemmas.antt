@@ -1,6 +1,6 @@
 -- Totals of a group.
-use Rattle.std.proofs.Common.{◌≡◌, ℕ, ◌+◌, ◌≤◌, min, List, ◌∷◌, if◌then◌else◌, ap, sym, ◌∙◌, arith}
-use Rattle.vfs_model.specs.Pass.{OpenFile, group_of, is_number, sum_of_group, total_of, greatest_total}
+use Rattle.std.proofs.Common.{◌≡◌, ℕ, ◌+◌, min, List, ◌∷◌, if◌then◌else◌, ap, ◌∙◌, arith}
+use Rattle.vfs_model.specs.Pass.{OpenFile, group_of, is_number, sum_of_group, total_of}
 use Rattle.vfs_model.specs.declared.layer.Group.{Group}
 
 min_more : (own rest : ℕ) → min (own + min rest 18446744073709551615) 18446744073709551615 ≡ min (own + rest) 18446744073709551615

@@ -1,5 +1,5 @@
 -- Places in files that are looked at for a mark.
-use Rattle.std.specs.Prelude.{ℕ, ◌≤◌}
+use Rattle.std.specs.Prelude.{◌≤◌}
 use Rattle.vfs_model.specs.Mark.{greatest_file}
 use Rattle.vfs_model.specs.declared.mark.Placed.{Placed}
 use Rattle.vfs_model.specs.declared.mark.Placed.TheVariants.{Ordinary, Behind, Fresh}

@@ -1,6 +1,5 @@
 -- How a write passes.
-use Rattle.std.specs.Prelude.{ℕ, List}
-use Rattle.vfs_model.specs.Pass.{Lengths, Passing as Way, Passes as Through, IsFull as Refused}
+use Rattle.vfs_model.specs.Pass.{Passing as Way, Passes as Through, IsFull as Refused}
 use Rattle.ref_stack.specs.declared.write.Passing.{Passing}
 use Rattle.ref_stack.specs.declared.write.Passing.TheVariants.{Passes, IsFull}
 

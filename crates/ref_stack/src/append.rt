@@ -29,7 +29,8 @@ pub fn shifted(place: Placed, len: u64, off: u64, end: u64) -> (u64, u64)
         Placed::Ordinary => (off, end),
         Placed::Behind(start) if len < end => (start + off, start + end + MARK_SIZE),
         Placed::Behind(start) => (start + off, start + end),
-        Placed::Fresh(whole) => (whole, next_start(whole) + end + MARK_SIZE),
+        Placed::Fresh(whole) if len < end => (whole, next_start(whole) + end + MARK_SIZE),
+        Placed::Fresh(whole) => (whole, whole),
     }
 }
 

@@ -266,6 +266,12 @@ fn the_first_write_behind_other_content_settles_its_place(rt: HostRuntime) -> Re
         matches!(shown.as_slice(), [top, own] if are(top, &[(b"main", 0)]) && are(own, &chunks))
     );
     let limits = [Limits::from_vec(vec![in alloc; 0]?)];
+    let Passing::Passes(same) = pass(alloc, &layers, &limits, &shown, b"main", 0, 0)? else {
+        return Err(Fail::from("a write of no byte passes"));
+    };
+    assert!(rt;
+        matches!(same.as_slice(), [top, own] if are(top, &[(b"main", 0)]) && are(own, &chunks))
+    );
     let first = pass(alloc, &layers, &limits, &shown, b"main", 0, 512)?;
     let Passing::Passes(after) = first else {
         return Err(Fail::from("no limit refuses it"));

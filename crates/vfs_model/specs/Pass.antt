@@ -112,11 +112,11 @@ abbrev pub append_limit : ℕ
 append_limit = 1000013824
 
 -- a write of a range below an append layer: where it begins, and where it ends. One that grows ends with the mark, and the
--- first one begins at the end of what stood in the file
+-- first one begins at the end of what stood in the file; until then no byte is written there
 abbrev pub shifted : Placed → ℕ → ℕ → ℕ → ℕ × ℕ
 shifted Ordinary len off end = (off, end)
 shifted (Behind start) len off end = (start + off, if nat_lt len end then start + end + mark_size else start + end)
-shifted (Fresh whole) len off end = (whole, next_start whole + end + mark_size)
+shifted (Fresh whole) len off end = (whole, if nat_lt len end then next_start whole + end + mark_size else whole)
 
 abbrev pub append_says : Placed → ℕ → ℕ → ℕ × ℕ → Option (ℕ × ℕ)
 append_says Ordinary len end range = None

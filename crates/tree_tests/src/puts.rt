@@ -127,20 +127,23 @@ enum Order {
     Scattered,
 }
 
-/// The rowid of the row that is put as number `at` of a hundred. Some come twice where they are scattered.
+/// The rowid of the row that is put as number `at` of two hundred. Some come twice where they are scattered.
 fn rowid_at(order: Order, at: i64) -> i64 {
-    let at = at & 0x7f;
+    let at = at & 0xff;
     match order {
         Order::Rising => at * 3,
-        Order::Falling => 300 - at * 3,
-        Order::Scattered => (at * 37) % 83 - 40,
+        Order::Falling => 600 - at * 3,
+        Order::Scattered => (at * 37) % 167 - 80,
     }
 }
 
-/// How many bytes the payload of that row has: up to 2,000 in each sixth row, and up to 150 in the others.
+/// How many bytes the payload of that row has: 66,000 in each hundredth row, up to 2,000 in each sixth, and up to 150 in the
+/// others.
 fn length_at(at: i64) -> usize {
-    let at = (at & 0x7f) as usize;
-    if at % 6 == 0 {
+    let at = (at & 0xff) as usize;
+    if at % 100 == 10 {
+        66_000
+    } else if at % 6 == 0 {
         (at * 125) % 2001
     } else {
         (at * 67) % 151
@@ -199,7 +202,7 @@ fn put_listed(rows: &mut Vec<(i64, usize)>, rowid: i64, len: usize) -> Result<bo
 }
 
 #[test]
-fn a_hundred_rows_stand_in_whole_trees(rt: HostRuntime) -> Result<(), Fail> {
+fn hundreds_of_rows_stand_in_whole_trees(rt: HostRuntime) -> Result<(), Fail> {
     let cases = [
         (512, 32, Order::Rising),
         (512, 32, Order::Falling),
@@ -212,7 +215,7 @@ fn a_hundred_rows_stand_in_whole_trees(rt: HostRuntime) -> Result<(), Fail> {
     Ok(())
 }
 
-/// Puts a hundred rows into page 1 and two trees, and looks at them after each tenth.
+/// Puts two hundred rows into page 1 and two trees, and looks at all of them after each row.
 fn see_puts(
     rt: &impl Abort,
     alloc: Global,
@@ -227,7 +230,7 @@ fn see_puts(
     let second = make_root(alloc, &mut space)?;
     let roots = [1, first, second];
     let mut rows = Vec::new(alloc);
-    for at in 0..100 {
+    for at in 0..200 {
         let rowid = rowid_at(order, at);
         let len = length_at(at);
         let payload = payload_of(alloc, rowid, len)?;
@@ -235,9 +238,7 @@ fn see_puts(
         for root in roots {
             assert!(rt; put_row(rt, alloc, &mut space, root, rowid, &payload)? == replaces);
         }
-        if at % 10 == 9 {
-            see_whole(rt, alloc, &mut space, &roots, &rows)?;
-        }
+        see_whole(rt, alloc, &mut space, &roots, &rows)?;
     }
     Ok(())
 }

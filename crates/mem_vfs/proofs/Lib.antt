@@ -6,3 +6,4 @@ pub mod PairLemmas
 pub mod GivenLemmas
 pub mod NameLemmas
 pub mod ImageLemmas
+pub mod StandLemmas

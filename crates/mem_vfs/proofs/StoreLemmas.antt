@@ -25,7 +25,7 @@ other_name a b apart = elim (bytes_eq a b) as (λ r. bytes_eq a b ≡ r → byte
 pub looser_same : (s : FileState) → NoLooser s s
 looser_same s = record {
   now = refl;
-  wild = refl;
+  tame = λ tame. tame;
   sure = λ h. h;
   stop = λ _. record { kept = λ place any kept. kept; floor_is = omega arith; reach_is = omega arith };
 }

@@ -64,6 +64,10 @@ open_levels handles fid = levels_in (slice_get handles fid)
 abbrev pub HandlesFound : List (Option Handle) → List File → Type 0
 HandlesFound handles files = (fid : ℕ) (name : List ℕ) → open_name handles fid ≡ Some name → IsThere files name
 
+-- no name is open by two numbers
+abbrev pub HandlesApart : List (Option Handle) → Type 0
+HandlesApart handles = (fid other : ℕ) (name name' : List ℕ) → fid ≢ other → open_name handles fid ≡ Some name → open_name handles other ≡ Some name' → name ≢ name'
+
 -- the number was not in use, is the least such, and has the name and no lock from now on
 pub record TakesHandle (old new : List (Option Handle)) (name : List ℕ) (fid : ℕ) : Type 0 where
   pub unused : open_name old fid ≡ None

@@ -213,6 +213,10 @@ impl Vfs for MemVfs {
         self.device.unlock(fid, owner, level);
     }
 
+    fn kind(&self, fid: Fid) -> Kind {
+        self.device.kind(fid)
+    }
+
     fn reserved(&self, fid: Fid) -> bool {
         self.device.reserved(fid)
     }

@@ -1,6 +1,6 @@
 //! A device in memory that never fails.
 
-ghost use Rattle.mem_vfs.specs.Memory.{HandlesFound};
+ghost use Rattle.mem_vfs.specs.Memory.{HandlesFound, HandlesApart};
 
 use crate::file::File;
 use crate::space::copy_out;
@@ -19,6 +19,7 @@ pub struct SureVfs {
     /// The open files, by their numbers.
     pub(crate) handles: Vec<Option<Handle>>,
     ghost found: { HandlesFound handles.items files.items },
+    ghost apart: { HandlesApart handles.items },
 }
 
 impl SureVfs {
@@ -136,6 +137,10 @@ impl Vfs for SureVfs {
 
     fn unlock(&mut self, fid: Fid, owner: Owner, level: Level) {
         handles::unlock(&mut self.handles, fid, owner, level);
+    }
+
+    fn kind(&self, fid: Fid) -> Kind {
+        handles::name_at(&self.handles, fid).kind()
     }
 
     fn reserved(&self, fid: Fid) -> bool {

@@ -4,16 +4,19 @@ use Rattle.vfs_model.specs.declared.layer.Layer.{Layer}
 use Rattle.vfs_model.specs.declared.layer.Layer.TheVariants.{Trace as TraceLayer, Cksum, Append, Mux, Quota}
 use Rattle.vfs_model.specs.File.{FileState}
 use Rattle.vfs_model.specs.Store.{Files, Apart, present}
-use Rattle.vfs_model.specs.Sound.{Sound}
-use Rattle.vfs_model.specs.Pass.{Lengths, Passing, Passes, IsFull, pass, of_file, lengths_shown}
+use Rattle.vfs_model.specs.Sound.{Sound, Each}
+use Rattle.vfs_model.specs.Pass.{Lengths, LengthsOnly, Passing, Passes, IsFull, pass, of_file, others_of, lengths_shown}
 use Rattle.vfs_trait.specs.Log.{Ring, Logs, RingsGrow, with_call}
 use Rattle.vfs_trait.specs.declared.log.Call.{Call}
 use Rattle.vfs_trait.specs.declared.log.Outcome.{Outcome}
 use Rattle.vfs_trait.specs.declared.fault.VfsFault.{VfsFault}
 use Rattle.vfs_trait.specs.declared.fault.VfsFault.TheVariants.{Failed, Memory, Busy, Full, BadPage}
 use Rattle.vfs_model.specs.declared.level.Fid.{Fid}
-use Rattle.vfs_trait.specs.State.{StackState, Steady, OpenStays, LevelsStay, AllCount, OthersCount, Rests, RestsBut, Stands, IsFree, IsShort, IsCounted}
-use Rattle.vfs_trait.specs.Calls.{Leaves, Numbers, Closes, CountsBeside, SyncTames, checked, MayFill, Caused, ReadCaused, WriteCaused, WriteCounts, CutCounts, NamesLeft, LeavesLengths, passing, not_empty, Answers, LogStays, item_at, behind_item}
+use Rattle.vfs_model.specs.Name.{kind_of}
+use Rattle.vfs_model.specs.declared.name.Kind.{Kind}
+use Rattle.vfs_model.specs.declared.name.Kind.TheVariants.{Main, Journal, Super}
+use Rattle.vfs_trait.specs.State.{StackState, Steady, OpenStays, LevelsStay, LengthsBeside, BrokenStays, BrokenBeside, Rests, RestsBut, RestsMeasured, Stands, IsFree, IsShort, IsCounted, name_at}
+use Rattle.vfs_trait.specs.Calls.{Leaves, Numbers, Closes, OpenLengths, CloseLengths, Measures, IsUncut, SyncTames, checked, MayFill, Caused, ReadCaused, WriteCaused, WriteCounts, CutCounts, NamesLeft, LeavesLengths, passing, not_empty, Answers, LogStays, item_at, behind_item}
 use Rattle.vfs_trait.specs.Follows.{Follows, OpenUnsettles, WriteUnsettles, CutUnsettles, SyncUnsettles, DeleteUnsettles, NamesUnsettle}
 use Rattle.vfs_trait.specs.declared.control.Control.{Control}
 use Rattle.vfs_trait.specs.declared.control.Control.TheVariants.{Totals, SetLimit, TakeTrace}
@@ -85,34 +88,40 @@ levels_over ring ring' old new h = record { each = h.each }
 counted_below : (ring : Option Ring) (s : StackState) (fid : ℕ) (name : List ℕ) → IsCounted (traced ring s) fid name → IsCounted s fid name
 counted_below ring s fid name h = record { named = h.named; is_main = h.is_main; intact = h.intact }
 
-lengths_over : (ring ring' : Option Ring) (old new : StackState) (name : List ℕ) → of_file new.layers name new.lengths ≡ of_file old.layers name old.lengths
-    → of_file (layers_of ring' new.layers) name new.lengths ≡ of_file (layers_of ring old.layers) name old.lengths
-lengths_over ring ring' old new name h = file_below ring' new.layers name new.lengths ∙ h ∙ sym (file_below ring old.layers name old.lengths)
+others_below : (ring : Option Ring) (layers : List Layer) (name : List ℕ) (lengths : Lengths) → others_of (layers_of ring layers) name lengths ≡ others_of layers name lengths
+others_below None layers name lengths = refl
+others_below (Some ring) layers name lengths = refl
 
-pub all_over : (ring ring' : Option Ring) (old new : StackState) → AllCount old new → AllCount (traced ring old) (traced ring' new)
-all_over ring ring' old new h = record {
-  lengths = λ fid name is. lengths_over ring ring' old new name (h.lengths fid name (counted_below ring old fid name is));
-  broken = h.broken;
-}
+pub beside_over : (ring ring' : Option Ring) (old new : StackState) (kind : Kind) (name : List ℕ) → LengthsBeside kind old new name → LengthsBeside kind (traced ring old) (traced ring' new) name
+beside_over ring ring' old new Main name h = others_below ring old.layers name new.lengths ∙ h ∙ sym (others_below ring old.layers name old.lengths)
+beside_over ring ring' old new Journal name h = h
+beside_over ring ring' old new Super name h = h
 
-pub others_over : (ring ring' : Option Ring) (old new : StackState) (fid : ℕ) → OthersCount old new fid → OthersCount (traced ring old) (traced ring' new) fid
-others_over ring ring' old new fid h = record {
-  lengths = λ other name another is. lengths_over ring ring' old new name (h.lengths other name another (counted_below ring old other name is));
-  broken = h.broken;
-}
+pub broken_over : (ring ring' : Option Ring) (old new : StackState) → BrokenStays old new → BrokenStays (traced ring old) (traced ring' new)
+broken_over ring ring' old new h = record { each = h.each }
 
-pub beside_over : (ring ring' : Option Ring) (old new : StackState) (name : List ℕ) → CountsBeside old new name → CountsBeside (traced ring old) (traced ring' new) name
-beside_over ring ring' old new name h = record {
-  lengths = λ fid other another is. lengths_over ring ring' old new other (h.lengths fid other another (counted_below ring old fid other is));
-  broken = h.broken;
-}
+pub broken_beside_over : (ring ring' : Option Ring) (old new : StackState) (fid : ℕ) → BrokenBeside old new fid → BrokenBeside (traced ring old) (traced ring' new) fid
+broken_beside_over ring ring' old new fid h = record { each = h.each }
+
+pub open_lengths_over : (ring ring' : Option Ring) (old new : StackState) (kind : Kind) (name : List ℕ) (result : Result Fid VfsFault) → OpenLengths kind old new name result →
+    OpenLengths kind (traced ring old) (traced ring' new) name result
+open_lengths_over ring ring' old new kind name (Err fault) h = h
+open_lengths_over ring ring' old new Main name (Ok fid) h = record { own = h.own; joined = h.joined; of_it = file_below ring old.layers name h.own ∙ h.of_it }
+open_lengths_over ring ring' old new Journal name (Ok fid) h = h
+open_lengths_over ring ring' old new Super name (Ok fid) h = h
+
+pub close_lengths_over : (ring ring' : Option Ring) (old new : StackState) (kind : Kind) (name : List ℕ) → CloseLengths kind old new name → CloseLengths kind (traced ring old) (traced ring' new) name
+close_lengths_over ring ring' old new Main name h = h ∙ sym (others_below ring old.layers name old.lengths)
+close_lengths_over ring ring' old new Journal name h = h
+close_lengths_over ring ring' old new Super name h = h
 
 pub rests_over : (ring ring' : Option Ring) (old new : StackState) → Rests old new → Rests (traced ring old) (traced ring' new)
 rests_over ring ring' old new h = record {
   limits = h.limits;
   levels = levels_over ring ring' old new h.levels;
   opens = opens_over ring ring' old new h.opens;
-  counts = all_over ring ring' old new h.counts;
+  lengths = h.lengths;
+  broken = broken_over ring ring' old new h.broken;
 }
 
 pub rests_but_over : (ring ring' : Option Ring) (old new : StackState) (fid : ℕ) → RestsBut old new fid → RestsBut (traced ring old) (traced ring' new) fid
@@ -120,8 +129,30 @@ rests_but_over ring ring' old new fid h = record {
   limits = h.limits;
   levels = levels_over ring ring' old new h.levels;
   opens = opens_over ring ring' old new h.opens;
-  counts = others_over ring ring' old new fid h.counts;
+  lengths = beside_over ring ring' old new (kind_of (name_at old fid)) (name_at old fid) h.lengths;
+  broken = broken_beside_over ring ring' old new fid h.broken;
+  known = h.known;
 }
+
+pub rests_measured_over : (ring ring' : Option Ring) (old new : StackState) (fid : ℕ) → RestsMeasured old new fid → RestsMeasured (traced ring old) (traced ring' new) fid
+rests_measured_over ring ring' old new fid h = record {
+  limits = h.limits;
+  levels = levels_over ring ring' old new h.levels;
+  opens = opens_over ring ring' old new h.opens;
+  lengths = beside_over ring ring' old new (kind_of (name_at old fid)) (name_at old fid) h.lengths;
+  intact = h.intact;
+  broken = broken_over ring ring' old new h.broken;
+}
+
+uncut_below : (ring : Option Ring) (layers : List Layer) → Each IsUncut (layers_of ring layers) → Each IsUncut layers
+uncut_below None layers h = h
+uncut_below (Some ring) layers h = h.1
+
+pub measures_over : (ring ring' : Option Ring) (old new : StackState) (name : List ℕ) (result : Result ℕ VfsFault) → Measures old new name result → Measures (traced ring old) (traced ring' new) name result
+measures_over ring ring' old new name (Ok len) h = record {
+  shown = λ told uncut main tame. file_below ring' new.layers name new.lengths ∙ h.shown told (uncut_below ring old.layers uncut) main tame ∙ sym (shown_below ring' new.layers (present new.base) (name ∷ []));
+}
+measures_over ring ring' old new name (Err fault) h = tt
 
 pub leaves_over : (ring ring' : Option Ring) (old new : StackState) (name : List ℕ) (left : FileState → FileState → Type 0) → Leaves old new name left → Leaves (traced ring old) (traced ring' new) name left
 leaves_over None ring' old new name left h = record { file = h.file; others = λ told. record { each = (h.others told).each } }
@@ -174,12 +205,23 @@ sound_over (Some ring) s h = record {
   unmarked = λ name none. h.unmarked name none.1;
 }
 
+only_over : (ring : Option Ring) (layers : List Layer) (holds : List ℕ → Type 0) (lengths : Lengths) → LengthsOnly layers holds lengths → LengthsOnly (layers_of ring layers) holds lengths
+only_over None layers holds lengths h = h
+only_over (Some ring) layers holds lengths h = h
+
+apart_over : (ring : Option Ring) (layers : List Layer) (name other : List ℕ) → Apart layers name other → Apart (layers_of ring layers) name other
+apart_over None layers name other h = h
+apart_over (Some ring) layers name other h = h
+
 pub stands_over : (ring : Option Ring) (s : StackState) → Stands s → Stands (traced ring s)
 stands_over ring s h = record {
   sound = λ told. sound_over ring s (h.sound told);
   counted = λ told fid name is tame.
       file_below ring s.layers name s.lengths ∙ h.counted told fid name (counted_below ring s fid name is) tame ∙ sym (shown_below ring s.layers (present s.base) (name ∷ []));
+  only_open = only_over ring s.layers _ s.lengths h.only_open;
+  apart = record { each = λ fid other name name' differ is is'. apart_over ring s.layers name name' (h.apart.each fid other name name' differ is is') };
   free = record { each = h.free.each };
+  sturdy = record { each = h.sturdy.each };
 }
 
 -- A layer that is on is no device
@@ -238,21 +280,20 @@ pub names_left_over : (ring ring' : Option Ring) (old new : StackState) (result 
 names_left_over ring ring' old new (Ok done) h = h
 names_left_over ring ring' old new (Err fault) h = h
 
-pub cut_counts_over : (ring ring' : Option Ring) (old new : StackState) (fid : ℕ) (result : Result Unit VfsFault) → CutCounts old new fid result → CutCounts (traced ring old) (traced ring' new) fid result
-cut_counts_over ring ring' old new fid (Ok done) h = h
-cut_counts_over ring ring' old new fid (Err fault) h = tt
+pub cut_counts_over : (ring ring' : Option Ring) (old new : StackState) (fid : ℕ) (name : List ℕ) (result : Result Unit VfsFault) → CutCounts old new fid name result → CutCounts (traced ring old) (traced ring' new) fid name result
+cut_counts_over ring ring' old new fid name (Ok done) h = λ told is. h told (counted_below ring old fid name is)
+cut_counts_over ring ring' old new fid name (Err fault) h = tt
 
 leaves_lengths_over : (ring ring' : Option Ring) (old new : StackState) (fid : ℕ) (name : List ℕ) (passing : Passing) →
     LeavesLengths old new fid name passing → LeavesLengths (traced ring old) (traced ring' new) fid name passing
-leaves_lengths_over ring ring' old new fid name (Passes after) h = λ is. let left = h (counted_below ring old fid name is) in
-    (file_below ring' new.layers name new.lengths ∙ left.0 ∙ sym (file_below ring old.layers name after), left.1)
+leaves_lengths_over ring ring' old new fid name (Passes after) h = (h.0, λ is. h.1 (counted_below ring old fid name is))
 leaves_lengths_over ring ring' old new fid name (IsFull total limit) h = tt
 
 pub write_counts_over : (ring ring' : Option Ring) (old new : StackState) (fid : ℕ) (name : List ℕ) (off len : ℕ) (result : Result Unit VfsFault) →
     WriteCounts old new fid name off len result → WriteCounts (traced ring old) (traced ring' new) fid name off len result
-write_counts_over ring ring' old new fid name off len (Ok done) h = λ told.
+write_counts_over ring ring' old new fid name off len (Ok done) h = λ told main.
     subst (λ p. LeavesLengths (traced ring old) (traced ring' new) fid name p) (sym (pass_below ring old.layers old.limits old.lengths name off (off + len)))
-    (leaves_lengths_over ring ring' old new fid name (passing old name off len) (h told))
+    (leaves_lengths_over ring ring' old new fid name (passing old name off len) (h told main))
 write_counts_over ring ring' old new fid name off len (Err Failed) h = tt
 write_counts_over ring ring' old new fid name off len (Err Memory) h = tt
 write_counts_over ring ring' old new fid name off len (Err (Busy holder level)) h = absurd h

@@ -57,7 +57,7 @@ impl<V: Vfs> Trace<V> {
 impl<V: Vfs> Vfs for Trace<V> {
     ghost state = { λ t. traced t.kept (V.state t.inner) };
 
-    #[tactic(auto, using(crate::proofs::Lifts::steady_over, crate::proofs::Lifts::caused_over, crate::proofs::Lifts::numbers_over, crate::proofs::Lifts::levels_over, crate::proofs::Lifts::beside_over, crate::proofs::Lifts::leaves_over, crate::proofs::Lifts::open_follows, crate::proofs::Lifts::logs_over, crate::proofs::Lifts::stands_over, crate::proofs::Lifts::free_over))]
+    #[tactic(auto, using(crate::proofs::Lifts::steady_over, crate::proofs::Lifts::caused_over, crate::proofs::Lifts::numbers_over, crate::proofs::Lifts::levels_over, crate::proofs::Lifts::leaves_over, crate::proofs::Lifts::open_follows, crate::proofs::Lifts::logs_over, crate::proofs::Lifts::stands_over, crate::proofs::Lifts::free_over, crate::proofs::Lifts::open_lengths_over, crate::proofs::Lifts::broken_over))]
     fn open(&mut self, name: &Name, kind: Kind) -> Result<Fid, VfsFault> {
         let answer = self.inner.open(name, kind);
         note(
@@ -75,7 +75,7 @@ impl<V: Vfs> Vfs for Trace<V> {
         answer
     }
 
-    #[tactic(auto, using(crate::proofs::Lifts::steady_over, crate::proofs::Lifts::closes_over, crate::proofs::Lifts::beside_over, crate::proofs::Lifts::leaves_over, crate::proofs::Lifts::stands_over))]
+    #[tactic(auto, using(crate::proofs::Lifts::steady_over, crate::proofs::Lifts::closes_over, crate::proofs::Lifts::leaves_over, crate::proofs::Lifts::stands_over, crate::proofs::Lifts::close_lengths_over, crate::proofs::Lifts::broken_beside_over))]
     fn close(&mut self, fid: Fid) {
         self.inner.close(fid);
     }
@@ -114,7 +114,7 @@ impl<V: Vfs> Vfs for Trace<V> {
         answer
     }
 
-    #[tactic(auto, using(crate::proofs::Lifts::steady_over, crate::proofs::Lifts::caused_over, crate::proofs::Lifts::rests_over, crate::proofs::Lifts::leaves_over, crate::proofs::Lifts::no_change_follows, crate::proofs::Lifts::logs_over, crate::proofs::Lifts::stands_over))]
+    #[tactic(auto, using(crate::proofs::Lifts::steady_over, crate::proofs::Lifts::caused_over, crate::proofs::Lifts::leaves_over, crate::proofs::Lifts::no_change_follows, crate::proofs::Lifts::logs_over, crate::proofs::Lifts::stands_over, crate::proofs::Lifts::rests_measured_over, crate::proofs::Lifts::measures_over))]
     fn length(&mut self, fid: Fid) -> Result<u64, VfsFault> {
         let answer = self.inner.length(fid);
         note(&mut self.kept, Call::Length { fid }, measured(&answer));
@@ -139,7 +139,7 @@ impl<V: Vfs> Vfs for Trace<V> {
         answer
     }
 
-    #[tactic(auto, using(crate::proofs::Lifts::steady_over, crate::proofs::Lifts::opens_over, crate::proofs::Lifts::all_over, crate::proofs::Lifts::logs_over, crate::proofs::Lifts::stands_over))]
+    #[tactic(auto, using(crate::proofs::Lifts::steady_over, crate::proofs::Lifts::opens_over, crate::proofs::Lifts::logs_over, crate::proofs::Lifts::stands_over, crate::proofs::Lifts::broken_over))]
     fn lock(&mut self, fid: Fid, owner: Owner, level: Level) -> Result<(), VfsFault> {
         let answer = self.inner.lock(fid, owner, level);
         note(
@@ -150,7 +150,7 @@ impl<V: Vfs> Vfs for Trace<V> {
         answer
     }
 
-    #[tactic(auto, using(crate::proofs::Lifts::steady_over, crate::proofs::Lifts::opens_over, crate::proofs::Lifts::all_over, crate::proofs::Lifts::logs_over, crate::proofs::Lifts::stands_over))]
+    #[tactic(auto, using(crate::proofs::Lifts::steady_over, crate::proofs::Lifts::opens_over, crate::proofs::Lifts::logs_over, crate::proofs::Lifts::stands_over, crate::proofs::Lifts::broken_over))]
     fn unlock(&mut self, fid: Fid, owner: Owner, level: Level) {
         self.inner.unlock(fid, owner, level);
         note(
@@ -158,6 +158,10 @@ impl<V: Vfs> Vfs for Trace<V> {
             Call::Unlock { fid, owner, level },
             Outcome::Ok,
         );
+    }
+
+    fn kind(&self, fid: Fid) -> Kind {
+        self.inner.kind(fid)
     }
 
     fn reserved(&self, fid: Fid) -> bool {
@@ -169,7 +173,7 @@ impl<V: Vfs> Vfs for Trace<V> {
         self.inner.view_holds()
     }
 
-    #[tactic(auto, using(crate::proofs::Lifts::steady_over, crate::proofs::Lifts::levels_over, crate::proofs::Lifts::opens_over, crate::proofs::Lifts::all_over, crate::proofs::Lifts::stands_over, crate::proofs::Lifts::answers_off, crate::proofs::Lifts::answers_own, crate::proofs::Lifts::answers_down))]
+    #[tactic(auto, using(crate::proofs::Lifts::steady_over, crate::proofs::Lifts::levels_over, crate::proofs::Lifts::opens_over, crate::proofs::Lifts::stands_over, crate::proofs::Lifts::answers_off, crate::proofs::Lifts::answers_own, crate::proofs::Lifts::answers_down, crate::proofs::Lifts::broken_over))]
     fn control(&mut self, control: Control) -> Result<Answer, VfsFault> {
         match &mut self.kept {
             None => self.inner.control(control),

@@ -34,11 +34,11 @@ zeros_digits (suc n) = zeros_digits n
 both_digits : (a b : List ℕ) → AreDigits a → AreDigits b → AreDigits (a ++ b)
 both_digits a b h k = list_all-append is_ascii_digit a b ∙ ap (λ x. x && list_all is_ascii_digit b) h ∙ k
 
-left_true : (x y : Bool) → (x && y) ≡ true → x ≡ true
+pub left_true : (x y : Bool) → (x && y) ≡ true → x ≡ true
 left_true true y h = refl
 left_true false y h = h
 
-right_true : (x y : Bool) → (x && y) ≡ true → y ≡ true
+pub right_true : (x y : Bool) → (x && y) ≡ true → y ≡ true
 right_true true y h = h
 right_true false y h = grind arith
 
@@ -57,7 +57,7 @@ longer : (x y : ℕ) (a b : List ℕ) → x ≡ y → IsNumbered a b → IsNumbe
 longer x y a b same h = (h.0, h.1, ap (λ z. z ∷ b) (sym same) ∙ ap (λ zs. x ∷ zs) h.2)
 
 -- of two texts that are one with digits behind them, one is the other with digits behind it
-numbered : (a b d e : List ℕ) → AreDigits d → AreDigits e → a ++ d ≡ b ++ e → IsNumbered a b ⊎ IsNumbered b a
+pub numbered : (a b d e : List ℕ) → AreDigits d → AreDigits e → a ++ d ≡ b ++ e → IsNumbered a b ⊎ IsNumbered b a
 numbered [] b d e of_d of_e same =
     let digits : AreDigits b = first_digits b e (ap (list_all is_ascii_digit) (sym same) ∙ of_d) in
     inl (b, search rules, refl)

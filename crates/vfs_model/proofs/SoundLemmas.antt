@@ -41,7 +41,7 @@ view_local (Quota groups) f g name same = same name refl
 pub sound_over : (layer : Layer) (layers : List Layer) (base below above : Store) → OwnStep layer below above → Sound layers base below → Sound (layer ∷ layers) base above
 sound_over layer layers base below above own sound = record {
   orderly = own.orderly;
-  shows = λ name tame. own.shows name ∙ view_local layer (present below) (through layers (present base)) name (λ other viewed. sound.shows other (own.wild name other tame viewed));
+  shows = λ name tame. own.shows name tame ∙ view_local layer (present below) (through layers (present base)) name (λ other viewed. sound.shows other (own.wild name other tame viewed));
   images = λ i device name tame. own.images (through layers i) name tame (λ other viewed. sound.images i device other (own.wild name other tame viewed));
   tame = λ none name. own.tame none.0 name (λ other. sound.tame none.1 other);
   unmarked = λ name none. own.unmarked name none.0 (sound.unmarked name none.1);

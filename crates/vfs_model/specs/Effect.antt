@@ -23,17 +23,13 @@ pub record Loosens (old new : FileState) (stays : ℕ → Type 0) (floor reach :
 abbrev pub Surer : FileState → FileState → Type 0
 Surer old new = IsTrue old.sure → IsTrue new.sure
 
--- a wild file stays wild: only a sync tames it
-abbrev pub StaysWild : FileState → FileState → Type 0
-StaysWild old new = new.wild ≡ false → old.wild ≡ false
-
 -- a read finds the file as before, and a stop may change no more than before. What was unsettled may be settled:
--- a layer may sync names in any call
+-- a layer may sync names in any call. Of a wild file a stop may leave anything, so that one may also become tame
 pub record NoLooser (old new : FileState) : Type 0 where
   pub now : new.now ≡ old.now
-  pub wild : new.wild ≡ old.wild
+  pub tame : old.wild ≡ false → new.wild ≡ false
   pub sure : Surer old new
-  pub stop : new.wild ≡ false → Loosens old new Anywhere old.shortest 0
+  pub stop : old.wild ≡ false → Loosens old new Anywhere old.shortest 0
 
 -- a write, failed: the range may hold anything, the length lies between, all beside the range stays. A file becomes wild
 -- only by a write that would make it longer, or one to a delicate file
@@ -44,8 +40,7 @@ pub record WriteFailed (delicate : Bool) (old new : FileState) (off len : ℕ) :
   pub beside : (place : ℕ) → place < length old.now.bytes → Beside off len place → Stays old.now new.now place
   pub sure : Surer old new
   pub tame : old.wild ≡ false → delicate ≡ false → off + len ≤ length old.now.bytes → new.wild ≡ false
-  pub wild : StaysWild old new
-  pub stop : new.wild ≡ false → Loosens old new (Beside off len) old.shortest (off + len)
+  pub stop : old.wild ≡ false → new.wild ≡ false → Loosens old new (Beside off len) old.shortest (off + len)
 
 -- a write, done: beside that, the range holds the bytes, and no place of it is bad
 pub record Wrote (delicate : Bool) (old new : FileState) (off : ℕ) (bytes : List ℕ) : Type 0 where
@@ -54,15 +49,14 @@ pub record Wrote (delicate : Bool) (old new : FileState) (off : ℕ) (bytes : Li
   pub inside : (place : ℕ) → place < length bytes → slice_get new.now.bytes (off + place) ≡ slice_get bytes place
   pub good : (place : ℕ) → place < length bytes → new.now.bad (off + place) ≡ false
 
--- a write, refused as full: the length and all before the offset stay
+-- a write, refused as full: it would have made the file longer, and the length and all before the offset stay
 pub record WriteFull (delicate : Bool) (old new : FileState) (off len : ℕ) : Type 0 where
+  pub grows : length old.now.bytes < off + len
   pub there : new.now.there ≡ old.now.there
   pub size : length new.now.bytes ≡ length old.now.bytes
   pub before : (place : ℕ) → place < length old.now.bytes → place < off → Stays old.now new.now place
   pub sure : Surer old new
-  pub tame : old.wild ≡ false → delicate ≡ false → off + len ≤ length old.now.bytes → new.wild ≡ false
-  pub wild : StaysWild old new
-  pub stop : new.wild ≡ false → Loosens old new (λ place. place < off) old.shortest (off + len)
+  pub stop : old.wild ≡ false → new.wild ≡ false → Loosens old new (λ place. place < off) old.shortest (off + len)
 
 -- a cut, failed: the length lies between, the bytes that are left stay, and so do the marks below the length asked for
 pub record CutFailed (old new : FileState) (len : ℕ) : Type 0 where
@@ -73,8 +67,7 @@ pub record CutFailed (old new : FileState) (len : ℕ) : Type 0 where
   pub marks : (place : ℕ) → place < len → new.now.bad place ≡ old.now.bad place
   pub sure : Surer old new
   pub tame : old.wild ≡ false → length old.now.bytes ≤ len → new.wild ≡ false
-  pub wild : StaysWild old new
-  pub stop : new.wild ≡ false → Loosens old new (λ place. place < len) (min old.shortest len) 0
+  pub stop : old.wild ≡ false → new.wild ≡ false → Loosens old new (λ place. place < len) (min old.shortest len) 0
 
 -- a cut, done: beside that, the file has this length
 pub record Cut (old new : FileState) (len : ℕ) : Type 0 where
@@ -100,19 +93,23 @@ pub record OpenFailed (old new : FileState) : Type 0 where
   pub found : IsTrue old.now.there → old.wild ≡ false → NoLooser old new
   pub made : old.now.there ≡ false → new.now.bytes ≡ []
   pub tame : old.wild ≡ false → new.wild ≡ false
-  pub wild : StaysWild old new
-  pub longest : new.wild ≡ false → new.longest ≤ old.longest
+  pub longest : old.wild ≡ false → new.longest ≤ old.longest
 
 -- an opening, done: beside that, the file is there
 pub record Opened (old new : FileState) : Type 0 where
   pub touched : OpenFailed old new
   pub there : IsTrue new.now.there
 
+-- a closing: a file that is not wild is as before. Of a wild one the next opening may find any content
+pub record Closed (old new : FileState) : Type 0 where
+  pub tame : old.wild ≡ false → NoLooser old new
+  pub there : new.now.there ≡ old.now.there
+  pub sure : Surer old new
+
 -- a deletion, failed: the file stays or is not there any more
 pub record DeleteFailed (old new : FileState) : Type 0 where
   pub stays : IsTrue new.now.there → new.now ≡ old.now
-  pub wild : StaysWild old new
-  pub longest : new.wild ≡ false → new.longest ≤ old.longest
+  pub longest : old.wild ≡ false → new.wild ≡ false → new.longest ≤ old.longest
 
 -- a deletion, done
 pub record Deleted (old new : FileState) : Type 0 where

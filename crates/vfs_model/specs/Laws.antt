@@ -1,10 +1,11 @@
 -- What follows from the definitions, for all callers.
-use Rattle.std.specs.Prelude.{◌≡◌, ℕ, ◌+◌, ◌<◌, Bool, false, List, [], ◌∷◌, ◌++◌, length, IsTrue, slice_get}
+use Rattle.std.specs.Prelude.{◌≡◌, ◌≢◌, ℕ, ◌+◌, ◌<◌, Bool, false, List, [], ◌∷◌, ◌++◌, length, IsTrue, slice_get}
 use Rattle.vfs_model.specs.File.{Found, FileState, IsOrderly, IsImage, IsSettled, SameFound}
 use Rattle.vfs_model.specs.Effect.{NoLooser, Wrote, Synced, NameSynced}
 use Rattle.vfs_model.specs.Store.{Store, Files, Separate, Apart}
 use Rattle.vfs_model.specs.View.{through, ViewedFrom}
 use Rattle.vfs_model.specs.Sound.{Sound, OwnStep}
+use Rattle.vfs_model.specs.Pass.{Lengths, of_file, others_of}
 use Rattle.vfs_model.specs.declared.layer.Layer.{Layer}
 
 -- what stands now may be left by a stop
@@ -35,6 +36,15 @@ SoundAbove = (layer : Layer) (layers : List Layer) (base below above : Store) �
 -- names that are separate are apart under any layers, both ways
 abbrev pub SeparateApart : Type 0
 SeparateApart = (layers : List Layer) (name other : List ℕ) → Separate name other → (Apart layers name other) × (Apart layers other name)
+
+-- apart is apart both ways, and two names
+abbrev pub ApartBack : Type 0
+ApartBack = (layers : List Layer) (name other : List ℕ) → Apart layers name other → (Apart layers other name) × (name ≢ other)
+
+-- what leaves the lengths of all files but one leaves those of any file that is apart from it
+abbrev pub OthersKeep : Type 0
+OthersKeep = (layers : List Layer) (name other : List ℕ) (old new : Lengths) → Apart layers name other →
+    others_of layers name new ≡ others_of layers name old → of_file layers other new ≡ of_file layers other old
 
 -- no looser, twice
 abbrev pub LooserTwice : Type 0

@@ -1,6 +1,6 @@
 -- One write of a database, followed down the layers of a stack: what each is asked, and the first that is full.
 -- After the header comments of SQLite's test_quota.c, test_multiplex.c and appendvfs.c.
-use Rattle.std.specs.Prelude.{ℕ, zero, suc, ◌+◌, ◌-◌, ◌*◌, min, max, Bool, true, false, ◌&&◌, not, nat_eq, nat_le, nat_lt, if◌then◌else◌, List, [], ◌∷◌, ◌++◌, length, Option, Some, None}
+use Rattle.std.specs.Prelude.{ℕ, zero, suc, ◌+◌, ◌-◌, ◌*◌, min, max, Bool, true, false, ◌&&◌, not, nat_eq, nat_le, nat_lt, if◌then◌else◌, List, [], ◌∷◌, ◌++◌, length, IsTrue, Option, Some, None}
 use Rattle.std.specs.Char.{is_ascii_digit}
 use Rattle.std.specs.List.{list_all, starts_with}
 use Rattle.vfs_model.specs.Store.{Files}
@@ -218,3 +218,42 @@ of_file (Append ∷ below) name [] = []
 of_file (Append ∷ below) name (files ∷ lengths) = only (same_name name) files ∷ of_file below name lengths
 of_file (Quota groups ∷ below) name [] = []
 of_file (Quota groups ∷ below) name (files ∷ lengths) = only (same_name name) files ∷ of_file below name lengths
+
+-- those of all other files
+abbrev pub others_of : List Layer → List ℕ → Lengths → Lengths
+others_of [] name lengths = []
+others_of (Trace ∷ below) name lengths = others_of below name lengths
+others_of (Cksum page ∷ below) name lengths = others_of below name lengths
+others_of (Mux chunk ∷ below) name lengths = each_only (λ other. not (is_chunk_of name other)) lengths
+others_of (Append ∷ below) name [] = []
+others_of (Append ∷ below) name (files ∷ lengths) = only (λ other. not (same_name name other)) files ∷ others_of below name lengths
+others_of (Quota groups ∷ below) name [] = []
+others_of (Quota groups ∷ below) name (files ∷ lengths) = only (λ other. not (same_name name other)) files ∷ others_of below name lengths
+
+-- at each layer more files behind those that are there
+abbrev pub each_joined : Lengths → Lengths → Lengths
+each_joined [] more = []
+each_joined (files ∷ lengths) [] = files ∷ lengths
+each_joined (files ∷ lengths) (own ∷ more) = (files ++ own) ∷ each_joined lengths more
+
+-- there is a list for each layer that keeps lengths, and each of its files is one for which this holds, below a multiplexor
+-- a chunk of one
+abbrev pub EachFile : (List ℕ → Type 0) → OpenFiles → Type 0
+EachFile holds [] = Unit {0}
+EachFile holds (file ∷ more) = holds file.name × EachFile holds more
+
+pub record IsPartOf (holds : List ℕ → Type 0) (other : List ℕ) : Type 0 where
+  pub name : List ℕ
+  pub of : holds name
+  pub chunk : IsTrue (is_chunk_of name other)
+
+abbrev pub LengthsOnly : List Layer → (List ℕ → Type 0) → Lengths → Type 0
+LengthsOnly [] holds [] = Unit {0}
+LengthsOnly [] holds (files ∷ lengths) = ⊥
+LengthsOnly (Trace ∷ below) holds lengths = LengthsOnly below holds lengths
+LengthsOnly (Cksum page ∷ below) holds lengths = LengthsOnly below holds lengths
+LengthsOnly (Mux chunk ∷ below) holds lengths = LengthsOnly below (IsPartOf holds) lengths
+LengthsOnly (Append ∷ below) holds [] = ⊥
+LengthsOnly (Append ∷ below) holds (files ∷ lengths) = EachFile holds files × LengthsOnly below holds lengths
+LengthsOnly (Quota groups ∷ below) holds [] = ⊥
+LengthsOnly (Quota groups ∷ below) holds (files ∷ lengths) = EachFile holds files × LengthsOnly below holds lengths

@@ -55,7 +55,7 @@ pub record Sound (layers : List Layer) (base files : Store) : Type 0 where
 -- the same of one layer over the files directly below it: an image is shown of those names alone that it views
 pub record OwnStep (layer : Layer) (below above : Store) : Type 0 where
   pub orderly : AllOrderly above
-  pub shows : (name : List ℕ) → (above name).now ≡ view layer (present below) name
+  pub shows : (name : List ℕ) → (above name).wild ≡ false → (above name).now ≡ view layer (present below) name
   pub images : (i : Files) (name : List ℕ) → (above name).wild ≡ false → ((other : List ℕ) → ViewedFrom layer name other → IsImage (below other) (i other)) →
       IsImage (above name) (view layer i name)
   pub wild : (name other : List ℕ) → (above name).wild ≡ false → ViewedFrom layer name other → (below other).wild ≡ false

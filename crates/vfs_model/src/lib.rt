@@ -14,8 +14,8 @@ mod stack;
 mod text;
 
 pub use laws::{
-    both_settle, empty_view, looser_twice, now_is_image, older_images, separate_apart,
-    settled_stays, sound_above, viewed_apart, views_compose, written_stands,
+    apart_back, both_settle, empty_view, looser_twice, now_is_image, older_images, others_keep,
+    separate_apart, settled_stays, sound_above, viewed_apart, views_compose, written_stands,
 };
 pub use layer::{Group, Groups, Layer};
 pub use level::{Fid, Level, Owner};

@@ -5,12 +5,13 @@ use Rattle.byte_base.specs.Numbers.{number_at}
 use Rattle.byteorder.specs.Endian.{little_bytes}
 use Rattle.vfs_model.specs.File.{FileState}
 use Rattle.vfs_model.specs.Effect.{NoLooser, Wrote, WriteFailed, WriteFull, Cut, CutFailed, Synced, Opened, OpenFailed, Deleted, DeleteFailed}
+use Rattle.vfs_model.specs.Sound.{Each}
 use Rattle.vfs_model.specs.Store.{OthersStay, FilesStay, NamesSynced, present}
 use Rattle.vfs_model.specs.Name.{kind_of}
 use Rattle.vfs_model.specs.Mark.{has_header}
-use Rattle.vfs_model.specs.Sums.{fails, found_sums, page_at, kept_size}
+use Rattle.vfs_model.specs.Sums.{found_sums, page_at, kept_size}
 use Rattle.vfs_model.specs.View.{through}
-use Rattle.vfs_model.specs.Pass.{OpenFile, OpenFiles, Lengths, Passing, Passes, IsFull, pass, of_file, total_of}
+use Rattle.vfs_model.specs.Pass.{OpenFile, OpenFiles, Lengths, Passing, Passes, IsFull, pass, of_file, others_of, each_joined, lengths_shown, total_of}
 use Rattle.vfs_model.specs.Lock.{IsOwner, level_at, rank, Grants, Refuses}
 use Rattle.vfs_model.specs.declared.name.Kind.{Kind}
 use Rattle.vfs_model.specs.declared.name.Kind.TheVariants.{Main, Journal, Super}
@@ -20,7 +21,7 @@ use Rattle.vfs_model.specs.declared.level.Level.TheVariants.{Free, Shared, Reser
 use Rattle.vfs_model.specs.declared.layer.Group.{Group}
 use Rattle.vfs_model.specs.declared.layer.Layer.{Layer}
 use Rattle.vfs_model.specs.declared.layer.Layer.TheVariants.{Trace, Cksum, Append, Mux, Quota}
-use Rattle.vfs_trait.specs.State.{StackState, OpenStays, name_at, LengthsOf, IsCounted}
+use Rattle.vfs_trait.specs.State.{StackState, OpenStays, LengthsStay, name_at, LengthsOf, IsCounted}
 use Rattle.vfs_trait.specs.Log.{Ring, emptied, entry_text}
 use Rattle.vfs_trait.specs.declared.fault.VfsFault.{VfsFault}
 use Rattle.vfs_trait.specs.declared.fault.VfsFault.TheVariants.{Failed, Memory, Busy, Full, BadPage}
@@ -64,10 +65,24 @@ abbrev pub OpenLeaves : FileState → FileState → Result Fid VfsFault → Type
 OpenLeaves old new (Ok _) = Opened old new
 OpenLeaves old new (Err _) = OpenFailed old new
 
--- the names that a call does not touch keep their lengths
-pub record CountsBeside (old new : StackState) (name : List ℕ) : Type 0 where
-  pub lengths : (fid : ℕ) (other : List ℕ) → other ≢ name → IsCounted old fid other → LengthsOf new other ≡ LengthsOf old other
-  pub broken : (fid : ℕ) (other : List ℕ) → other ≢ name → old.open_files fid ≡ Some other → new.broken fid ≡ old.broken fid
+-- at each layer the lengths of a file are put behind those that are there
+pub record AddsLengths (old new : StackState) (name : List ℕ) : Type 0 where
+  pub own : Lengths
+  pub joined : new.lengths ≡ each_joined old.lengths own
+  pub of_it : of_file old.layers name own ≡ own
+
+-- an opening adds those of a database
+abbrev pub OpenLengths : Kind → StackState → StackState → List ℕ → Result Fid VfsFault → Type 0
+OpenLengths kind old new name (Err _) = LengthsStay old new
+OpenLengths Main old new name (Ok _) = AddsLengths old new name
+OpenLengths Journal old new name (Ok _) = LengthsStay old new
+OpenLengths Super old new name (Ok _) = LengthsStay old new
+
+-- a closing takes them out
+abbrev pub CloseLengths : Kind → StackState → StackState → List ℕ → Type 0
+CloseLengths Main old new name = new.lengths ≡ others_of old.layers name old.lengths
+CloseLengths Journal old new name = LengthsStay old new
+CloseLengths Super old new name = LengthsStay old new
 
 -- Reading
 
@@ -98,9 +113,9 @@ checked (Quota groups ∷ below) = checked below
 abbrev pub unchecked : StackState → List Layer → List ℕ → List ℕ
 unchecked s below name = (through below (present s.base) name).bytes
 
--- a read of so many bytes touches a page, numbered from 0
+-- a read of so many bytes, and not of none, touches a page, numbered from 0
 abbrev pub Touches : ℕ → ℕ → ℕ → ℕ → Type 0
-Touches size off len number = (off < size * (number + 1)) × (size * number < off + len)
+Touches size off len number = (1 ≤ len) × (off < size * (number + 1)) × (size * number < off + len)
 
 -- the eight bytes that a page keeps, and those that it should keep, as big-endian numbers
 abbrev pub kept_number : ℕ → List ℕ → ℕ → ℕ
@@ -109,21 +124,25 @@ kept_number size bytes number = number_at 8 (page_at size bytes number) (size - 
 abbrev pub sums_number : ℕ × ℕ → ℕ
 sums_number sums = number_at 8 (little_bytes 4 sums.0 ++ little_bytes 4 sums.1) 0
 
--- the first page that a read touches and that fails
-pub record FirstBad (size : ℕ) (bytes : List ℕ) (off len page kept found : ℕ) : Type 0 where
+-- the first page that a read touches and that is bad
+pub record FirstBad (size : ℕ) (bad : ℕ → Bool) (off len page : ℕ) : Type 0 where
   pub number : ℕ
   pub is : page ≡ number + 1
   pub touched : Touches size off len number
-  pub bad : fails size bytes number ≡ true
-  pub first : (other : ℕ) → other < number → Touches size off len other → fails size bytes other ≡ false
-  pub kept_is : kept ≡ kept_number size bytes number
-  pub found_is : found ≡ sums_number (found_sums size bytes number)
+  pub bad_is : bad (size * number) ≡ true
+  pub first : (other : ℕ) → other < number → Touches size off len other → bad (size * other) ≡ false
 
--- a read meets a bad page: of a database, below a checksum layer, and where it is told, the first one
+-- the sums that a page keeps and has
+pub record SumsOf (size : ℕ) (bytes : List ℕ) (page kept found : ℕ) : Type 0 where
+  pub kept_is : kept ≡ kept_number size bytes (page - 1)
+  pub found_is : found ≡ sums_number (found_sums size bytes (page - 1))
+
+-- a read meets a bad page: of a database, below a checksum layer, and where it is told, the first one. Which sums the page of
+-- a wild file has is not said
 abbrev pub MeetsIn : StackState → List ℕ → ℕ → ℕ → ℕ → ℕ → ℕ → Option (ℕ × List Layer) → Type 0
 MeetsIn s name off len page kept found None = ⊥
-MeetsIn s name off len page kept found (Some layer) =
-    (kind_of name ≡ Main) × (IsTrue s.tells → (s.files name).wild ≡ false → FirstBad layer.0 (unchecked s layer.1 name) off len page kept found)
+MeetsIn s name off len page kept found (Some layer) = (kind_of name ≡ Main)
+    × (IsTrue s.tells → FirstBad layer.0 (s.files name).now.bad off len page × ((s.files name).wild ≡ false → SumsOf layer.0 (unchecked s layer.1 name) page kept found))
 
 abbrev pub ReadCaused : StackState → StackState → List ℕ → ℕ → ℕ → Result ℕ VfsFault → Type 0
 ReadCaused old new name off len (Ok _) = IsTrue old.tells → (place : ℕ) → off ≤ place → place < off + len → (old.files name).now.bad place ≡ false
@@ -186,11 +205,11 @@ not_empty [] = []
 not_empty (file ∷ more) = unless_empty file.len file (not_empty more)
 
 abbrev pub LeavesLengths : StackState → StackState → ℕ → List ℕ → Passing → Type 0
-LeavesLengths old new fid name (Passes after) = IsCounted old fid name → (LengthsOf new name ≡ of_file old.layers name after) × (new.broken fid ≡ false)
+LeavesLengths old new fid name (Passes after) = (new.lengths ≡ after) × (IsCounted old fid name → new.broken fid ≡ false)
 LeavesLengths old new fid name (IsFull total limit) = Unit {0}
 
 abbrev pub WriteCounts : StackState → StackState → ℕ → List ℕ → ℕ → ℕ → Result Unit VfsFault → Type 0
-WriteCounts old new fid name off len (Ok _) = IsTrue old.tells → LeavesLengths old new fid name (passing old name off len)
+WriteCounts old new fid name off len (Ok _) = IsTrue old.tells → kind_of name ≡ Main → LeavesLengths old new fid name (passing old name off len)
 WriteCounts old new fid name off len (Err Failed) = Unit {0}
 WriteCounts old new fid name off len (Err Memory) = Unit {0}
 WriteCounts old new fid name off len (Err (Busy holder level)) = ⊥
@@ -199,9 +218,27 @@ WriteCounts old new fid name off len (Err (Full total limit)) =
 WriteCounts old new fid name off len (Err (BadPage page kept found)) = ⊥
 
 -- a cut that is done breaks nothing
-abbrev pub CutCounts : StackState → StackState → ℕ → Result Unit VfsFault → Type 0
-CutCounts old new fid (Ok _) = old.broken fid ≡ false → new.broken fid ≡ false
-CutCounts old new fid (Err _) = Unit {0}
+abbrev pub CutCounts : StackState → StackState → ℕ → List ℕ → Result Unit VfsFault → Type 0
+CutCounts old new fid name (Ok _) = IsTrue old.tells → IsCounted old fid name → new.broken fid ≡ false
+CutCounts old new fid name (Err _) = Unit {0}
+
+-- the layer leaves files in one piece
+abbrev pub IsUncut : Layer → Type 0
+IsUncut Trace = Unit {0}
+IsUncut (Cksum page) = Unit {0}
+IsUncut Append = Unit {0}
+IsUncut (Mux chunk) = ⊥
+IsUncut (Quota groups) = Unit {0}
+
+-- a length that is answered is that by which a database counts, whatever went wrong before. Below a multiplexor a file of which
+-- something went wrong may have chunks that are open and no part of it; nothing is said there
+pub record Measured (old new : StackState) (name : List ℕ) : Type 0 where
+  pub shown : IsTrue old.tells → Each IsUncut old.layers → kind_of name ≡ Main → (new.files name).wild ≡ false →
+      LengthsOf new name ≡ lengths_shown new.layers (present new.base) (name ∷ [])
+
+abbrev pub Measures : StackState → StackState → List ℕ → Result ℕ VfsFault → Type 0
+Measures old new name (Ok _) = Measured old new name
+Measures old new name (Err _) = Unit {0}
 
 abbrev pub WriteLeaves : Bool → FileState → FileState → ℕ → List ℕ → Result Unit VfsFault → Type 0
 WriteLeaves delicate old new off bytes (Ok _) = Wrote delicate old new off bytes

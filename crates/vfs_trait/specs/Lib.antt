@@ -3,3 +3,4 @@ pub mod State
 pub mod Calls
 pub mod Follows
 pub mod Free
+pub mod Laws

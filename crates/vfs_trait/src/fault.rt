@@ -1,7 +1,8 @@
-//! Why a call of a stack was refused.
+//! Why a call of a stack was refused, and why a database over one was not opened.
 
+use db_format::HeaderFault;
 use thiserror::Error;
-use vfs_model::{Level, Owner};
+use vfs_model::{Level, Name, Owner};
 
 /// Why a call of a stack was refused. What stands afterwards is said at each call.
 #[derive(Clone, Copy, Debug, Error)]
@@ -37,5 +38,38 @@ pub enum VfsFault {
         kept: u64,
         /// The eight bytes of the checksum that the page has, likewise.
         found: u64,
+    },
+}
+
+/// Why a database was not opened. What stands afterwards is said by the call that opens.
+#[derive(Clone, Copy, Debug, Error)]
+pub enum OpenFault {
+    /// The device failed, and its count of faults rose.
+    #[error("the device failed")]
+    Failed,
+    /// There was no memory.
+    #[error("no memory")]
+    Memory,
+    /// The first page fails its checksum.
+    #[error("page {page} fails its checksum")]
+    BadPage {
+        /// The number of the page, from 1.
+        page: u32,
+        /// The eight bytes of the checksum that is kept, as a big-endian number.
+        kept: u64,
+        /// The eight bytes of the checksum that the page has, likewise.
+        found: u64,
+    },
+    /// The header is none that can be worked with.
+    #[error("the header is refused")]
+    Header(HeaderFault),
+    /// A journal is there that asks to be played back, and is none of the form that is played.
+    #[error("a journal of another form")]
+    ForeignJournal,
+    /// The journal belongs to a commit on several databases, whose super-journal has this name.
+    #[error("another database is needed")]
+    NeedsOther {
+        /// The name of the super-journal.
+        name: Name,
     },
 }

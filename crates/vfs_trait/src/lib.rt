@@ -6,11 +6,13 @@
 
 mod control;
 mod fault;
+mod laws;
 mod log;
 mod vfs;
 
 pub use byte_base::{ByteLists, Bytes};
 pub use control::{Answer, Control, TotalList, TraceList};
-pub use fault::VfsFault;
+pub use fault::{OpenFault, VfsFault};
+pub use laws::{checked_once, kept_twice, rose_in_two, separate_is_free};
 pub use log::{Call, Entry, Outcome};
-pub use vfs::{Vfs, separate_is_free};
+pub use vfs::Vfs;

@@ -2,23 +2,23 @@
 
 ghost use Rattle.std.specs.Prelude.{◌≡◌, ◌↔◌, ℕ, ◌+◌, ◌≤◌, ◌^◌, true, false, length, IsTrue, OnErr, IfOk};
 ghost use Rattle.vfs_model.specs.Name.{kind_of};
-ghost use Rattle.vfs_model.specs.Effect.{NoLooser};
+ghost use Rattle.vfs_model.specs.Effect.{NoLooser, Closed};
 ghost use Rattle.vfs_model.specs.Lock.{MayAsk, Lowers};
-ghost use Rattle.vfs_trait.specs.State.{StackState, file_at, name_at, IsOpen, IsFree, Steady, LimitsStay, LevelsStay, OpenStays, OthersCount, AllCount, Rests, RestsBut, Stands};
+ghost use Rattle.vfs_trait.specs.State.{StackState, file_at, name_at, IsOpen, IsFree, Steady, LimitsStay, LevelsStay, OpenStays, LengthsStay, BrokenStays, BrokenBeside, Rests, RestsBut, RestsMeasured, Stands};
 ghost use Rattle.vfs_trait.specs.Log.{Logs, outcome_of, yes_or_no};
 ghost use Rattle.vfs_trait.specs.declared.log.Call.TheVariants.{Open, Exists, Read, Write, Cut, Sync, Length, Delete, SyncNames, Lock, Unlock};
 ghost use Rattle.vfs_trait.specs.declared.log.Outcome.TheVariants.{Ok as Done, Fid as Number, Bytes as Count, Len};
 ghost use Rattle.vfs_trait.specs.Follows.{Follows, OpenUnsettles, WriteUnsettles, CutUnsettles, SyncUnsettles, DeleteUnsettles, NamesUnsettle};
-ghost use Rattle.vfs_trait.specs.Free.{SeparateIsFree};
-ghost use Rattle.vfs_trait.specs.Calls.{Caused, ReadCaused, WriteCaused, MayWrite, MayCutTo, checked, Numbers, CountsBeside, OpenLeaves, Closes, FillsUp, Reads, AllZero, WriteLeaves, WriteCounts, CutLeaves, CutCounts, SyncLeaves, SyncTames, DeleteLeaves, Leaves, NamesLeft, FilesLeft, LocksAt, LockRule, IsReserved, Answers, falls_to};
+ghost use Rattle.vfs_trait.specs.Calls.{Caused, ReadCaused, WriteCaused, MayWrite, MayCutTo, checked, Numbers, OpenLengths, OpenLeaves, Closes, CloseLengths, FillsUp, Reads, AllZero, WriteLeaves, WriteCounts, CutLeaves, CutCounts, Measures, SyncLeaves, SyncTames, DeleteLeaves, Leaves, NamesLeft, FilesLeft, LocksAt, LockRule, IsReserved, Answers, falls_to};
 
 use crate::{Answer, Control, VfsFault};
-use vfs_model::{Fid, Kind, Level, Name, Owner, separate_apart};
+use vfs_model::{Fid, Kind, Level, Name, Owner};
 
 /// A stack of files. What contracts say of it is one record, its state.
 ///
 /// Clauses on the content of files, on lengths and on what a stop may leave hold where the state tells content. The
-/// refusals of a call come in the order `Memory`, `Failed`, `BadPage`, `Full`.
+/// refusals of a call come in the order `Memory`, `Failed`, `BadPage`, `Full`; a layer that finds a write full asks nothing
+/// of the layers below it.
 pub trait Vfs: Drop {
     ghost state: { Self → StackState };
 
@@ -34,7 +34,8 @@ pub trait Vfs: Drop {
         ensures numbers { Numbers (state self.old) (state self.new) name.now result }
         ensures limits { LimitsStay (state self.old) (state self.new) }
         ensures levels { LevelsStay (state self.old) (state self.new) }
-        ensures beside { CountsBeside (state self.old) (state self.new) name.now }
+        ensures lengths { OpenLengths kind (state self.old) (state self.new) name.now result }
+        ensures broken { BrokenStays (state self.old) (state self.new) }
         ensures leaves { Leaves (state self.old) (state self.new) name.now (λ old new. OpenLeaves old new result) }
         ensures follows { Follows (state self.old) (state self.new) result (OpenUnsettles (state self.old) (state self.new) name.now) }
         ensures logs { Logs (state self.old).layers (state self.old).log (state self.new).log (Open name.now kind) (outcome_of Number result) }
@@ -57,8 +58,9 @@ pub trait Vfs: Drop {
         ensures steady { Steady (state self.old) (state self.new) }
         ensures closes { Closes (state self.old) (state self.new) fid.0 }
         ensures limits { LimitsStay (state self.old) (state self.new) }
-        ensures beside { CountsBeside (state self.old) (state self.new) (name_at (state self.old) fid.0) }
-        ensures leaves { Leaves (state self.old) (state self.new) (name_at (state self.old) fid.0) NoLooser }
+        ensures lengths { CloseLengths (kind_of (name_at (state self.old) fid.0)) (state self.old) (state self.new) (name_at (state self.old) fid.0) }
+        ensures broken { BrokenBeside (state self.old) (state self.new) fid.0 }
+        ensures leaves { Leaves (state self.old) (state self.new) (name_at (state self.old) fid.0) Closed }
         ensures log { (state self.new).log ≡ (state self.old).log }
         ensures stands { Stands (state self.new) };
 
@@ -113,7 +115,7 @@ pub trait Vfs: Drop {
         ensures steady { Steady (state self.old) (state self.new) }
         ensures cause { Caused (state self.old) (state self.new) result }
         ensures rests { RestsBut (state self.old) (state self.new) fid.0 }
-        ensures counts { CutCounts (state self.old) (state self.new) fid.0 result }
+        ensures counts { CutCounts (state self.old) (state self.new) fid.0 (name_at (state self.old) fid.0) result }
         ensures leaves { Leaves (state self.old) (state self.new) (name_at (state self.old) fid.0) (λ old new. CutLeaves old new len result) }
         ensures follows { Follows (state self.old) (state self.new) result (CutUnsettles (state self.old) (state self.new) fid.0 len) }
         ensures logs { Logs (state self.old).layers (state self.old).log (state self.new).log (Cut fid len) (outcome_of (λ _. Done) result) }
@@ -138,7 +140,8 @@ pub trait Vfs: Drop {
         requires is_open { IsOpen (state self.old) fid.0 }
         ensures steady { Steady (state self.old) (state self.new) }
         ensures cause { Caused (state self.old) (state self.new) result }
-        ensures rests { Rests (state self.old) (state self.new) }
+        ensures rests { RestsMeasured (state self.old) (state self.new) fid.0 }
+        ensures measures { Measures (state self.old) (state self.new) (name_at (state self.old) fid.0) result }
         ensures length_of { IsTrue (state self.old).tells → IfOk result (λ len. len ≡ length (file_at (state self.old) fid.0).now.bytes) }
         ensures leaves { Leaves (state self.old) (state self.new) (name_at (state self.old) fid.0) NoLooser }
         ensures follows { Follows (state self.old) (state self.new) result (λ _. Unit {0}) }
@@ -182,7 +185,8 @@ pub trait Vfs: Drop {
         ensures rule { LocksAt (state self.old) (state self.new) fid.0 (LockRule owner level result) }
         ensures limits { LimitsStay (state self.old) (state self.new) }
         ensures opens { OpenStays (state self.old) (state self.new) }
-        ensures counts { AllCount (state self.old) (state self.new) }
+        ensures lengths { LengthsStay (state self.old) (state self.new) }
+        ensures broken { BrokenStays (state self.old) (state self.new) }
         ensures files { FilesLeft (state self.old) (state self.new) }
         ensures logs { Logs (state self.old).layers (state self.old).log (state self.new).log (Lock fid owner level) (outcome_of (λ _. Done) result) }
         ensures stands { Stands (state self.new) };
@@ -195,10 +199,16 @@ pub trait Vfs: Drop {
         ensures lowers { LocksAt (state self.old) (state self.new) fid.0 (λ old new. Lowers old new owner level) }
         ensures limits { LimitsStay (state self.old) (state self.new) }
         ensures opens { OpenStays (state self.old) (state self.new) }
-        ensures counts { AllCount (state self.old) (state self.new) }
+        ensures lengths { LengthsStay (state self.old) (state self.new) }
+        ensures broken { BrokenStays (state self.old) (state self.new) }
         ensures files { FilesLeft (state self.old) (state self.new) }
         ensures logs { Logs (state self.old).layers (state self.old).log (state self.new).log (Unlock fid owner level) Done }
         ensures stands { Stands (state self.new) };
+
+    /// The kind of an open file, for layers that are given its number alone.
+    fn kind(&self, fid: Fid) -> Kind
+        requires is_open { IsOpen (state self.now) fid.0 }
+        ensures { result ≡ kind_of (name_at (state self.now) fid.0) };
 
     /// Whether some owner holds Reserved or more on a file.
     fn reserved(&self, fid: Fid) -> bool
@@ -217,7 +227,8 @@ pub trait Vfs: Drop {
         ensures answers { Answers (state self.old) (state self.new) control result }
         ensures levels { LevelsStay (state self.old) (state self.new) }
         ensures opens { OpenStays (state self.old) (state self.new) }
-        ensures counts { AllCount (state self.old) (state self.new) }
+        ensures lengths { LengthsStay (state self.old) (state self.new) }
+        ensures broken { BrokenStays (state self.old) (state self.new) }
         ensures files { FilesLeft (state self.old) (state self.new) }
         ensures stands { Stands (state self.new) };
 }
@@ -273,6 +284,10 @@ impl Vfs for Box<dyn Vfs> {
         (**self).unlock(fid, owner, level)
     }
 
+    fn kind(&self, fid: Fid) -> Kind {
+        (**self).kind(fid)
+    }
+
     fn reserved(&self, fid: Fid) -> bool {
         (**self).reserved(fid)
     }
@@ -284,11 +299,4 @@ impl Vfs for Box<dyn Vfs> {
     fn control(&mut self, control: Control) -> Result<Answer, VfsFault> {
         (**self).control(control)
     }
-}
-
-/// A short name that is separate from every open one is free, under any layers.
-pub fn separate_is_free()
-    ensures { SeparateIsFree }
-{
-    separate_apart();
 }

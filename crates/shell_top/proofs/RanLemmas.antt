@@ -1,21 +1,22 @@
-use Rattle.std.proofs.Common.{◌≡◌, ℕ, Bool, true, false, List, [], get_or, IsTrue, refl, sym, ap, subst, ◌∙◌, arith, Option, Some, None, unwrap_or}
+use Rattle.std.proofs.Common.{◌≡◌, ◌≢◌, ℕ, Bool, true, false, List, [], get_or, IsTrue, refl, sym, ap, subst, ◌∙◌, arith, Option, Some, None, unwrap_or}
 use mathlib.Core.Bool.{true≢false}
 use Rattle.vfs_model.specs.Effect.{NoLooser}
 use Rattle.vfs_model.specs.Laws.{LooserTwice}
 use Rattle.vfs_trait.specs.State.{StackState, Steady, Stands as StackStands}
 use Rattle.vfs_trait.specs.Calls.{Leaves}
-use Rattle.shell_top.specs.Ends.{SourceState, SinkState}
-use Rattle.shell_top.specs.Machine.{Opens, content}
-use Rattle.shell_top.specs.Touched.{OnlyTouches, RefusedStays}
+use Rattle.shell_lang.specs.Ends.{SourceState, SinkState}
+use Rattle.shell_top.specs.Machine.{Machine, Opens, content}
+use Rattle.shell_top.specs.Touched.{OnlyTouches, RefusedStays, UnopenedStays}
 use Rattle.shell_top.specs.Ran.{Ran, Went}
 use Rattle.shell_top.specs.Rows.{row_file}
 use Rattle.shell_top.specs.Stands.{machine_of, TableStands, machine, Stands, Keeps}
 use Rattle.shell_top.specs.Words.{AreWords}
 use Rattle.shell_top.specs.declared.reply.Reply.{Reply}
+use Rattle.shell_top.specs.declared.reply.Reply.TheVariants.{Open, New, Replaced, NotADatabase, BadLine, TooLong, Fault, Stopped, Memory, MemoryStopped}
 use Rattle.shell_top.specs.declared.session.Table.{Table}
 use Rattle.shell_top.specs.declared.session.Session.{Session}
 use Rattle.shell_top.specs.declared.status.Status.{Status}
-use Rattle.shell_top.proofs.TouchLemmas.{touches_on}
+use Rattle.shell_top.proofs.TouchLemmas.{touches_on, failed_on}
 
 -- the words name one database at most
 pub one_name : (words : List (List ℕ)) (a b : List ℕ) → AreWords words a → AreWords words b → a ≡ b
@@ -52,11 +53,33 @@ refused_through twice name before opened behind closed first last opening opens 
     let Q : StackState → Type 0 = λ s. IsTrue s.tells → NoLooser (s.files name) (closed.files name) in
     twice (before.files name) (opened.files name) (closed.files name) (stays is tells tame) (subst Q same left (begun.steady.tells ∙ tells))
 
+-- an opening that is not answered `open` begins no machine that goes on
+stopped_of : (before : StackState) (name : List ℕ) (opening : Reply) (start : Machine) → opening ≢ Open → Opens before name opening start → start.stopped ≡ true
+stopped_of before name Open start differ opens = absurd (differ refl)
+stopped_of before name NotADatabase start differ opens = opens.1
+stopped_of before name Fault start differ opens = opens.0
+stopped_of before name MemoryStopped start differ opens = opens.0
+stopped_of before name New start differ opens = absurd opens
+stopped_of before name Replaced start differ opens = absurd opens
+stopped_of before name BadLine start differ opens = absurd opens
+stopped_of before name TooLong start differ opens = absurd opens
+stopped_of before name Stopped start differ opens = absurd opens
+stopped_of before name Memory start differ opens = absurd opens
+
+-- and what it left stays likewise
+unopened_through : LooserTwice → (name : List ℕ) (before opened behind closed : StackState) (first last : Session) (opening : Reply) → Opens before name opening (machine first opened)
+    → UnopenedStays opening before opened name → Keeps first last opened behind → (IsTrue behind.tells → NoLooser (behind.files name) (closed.files name))
+    → OnlyTouches name before opened → UnopenedStays opening before closed name
+unopened_through twice name before opened behind closed first last opening opens stays keeps left begun differ tells tame =
+    let same : behind ≡ opened = (keeps.stopped (no_table first.table opened.faults (stopped_of before name opening (machine first opened) differ opens))).1 in
+    let Q : StackState → Type 0 = λ s. IsTrue s.tells → NoLooser (s.files name) (closed.files name) in
+    failed_on twice (before.files name) (opened.files name) (closed.files name) (stays differ tells tame) (subst Q same left (begun.steady.tells ∙ tells))
+
 pub ran_of : LooserTwice → (name : List ℕ) (before opened behind closed : StackState) (first last : Session) (in0 in1 : SourceState) (s0 s1 : SinkState) (status : Status) (opening : Reply)
     → first.name ≡ name → Opens before name opening (machine first opened) → Went status in0 in1 opening (machine first opened) (machine last behind) s0 s1
-    → Stands last behind → OnlyTouches name before opened → RefusedStays opening before opened name → Keeps first last opened behind
+    → Stands last behind → OnlyTouches name before opened → RefusedStays opening before opened name → UnopenedStays opening before opened name → Keeps first last opened behind
     → Steady behind closed → Leaves behind closed last.name NoLooser → StackStands closed → Ran name before closed in0 in1 s0 s1 status
-ran_of twice name before opened behind closed first last in0 in1 s0 s1 status opening begins opens went stands begun stays keeps steady leaves shows =
+ran_of twice name before opened behind closed first last in0 in1 s0 s1 status opening begins opens went stands begun stays unopened keeps steady leaves shows =
     let named : last.name ≡ name = keeps.named ∙ begins in
     let Kept : List ℕ → Type 0 = λ n. TableStands n last.table behind in
     let Touches : List ℕ → Type 0 = λ n. OnlyTouches n opened behind in
@@ -79,6 +102,7 @@ ran_of twice name before opened behind closed first last in0 in1 s0 s1 status op
           let sound = shows.sound (all.steady.tells ∙ tells) in
           ap content (sym (sound.shows name tame)) ∙ content_of _ _ (closed.files name).now.bad (sound.orderly name).missing ∙ bytes goes tells;
       refused = refused_through twice name before opened behind closed first last opening opens stays keeps left.file begun;
+      unopened = unopened_through twice name before opened behind closed first last opening opens unopened keeps left.file begun;
       others = all.others;
       steady = all.steady;
       faults = omega (arith, steady.faults, same_faults last.table behind.faults);

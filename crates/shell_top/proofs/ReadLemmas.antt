@@ -1,7 +1,7 @@
 use Rattle.std.proofs.Common.{◌≡◌, ℕ, ◌+◌, ◌<◌, ◌≤◌, List, [], ◌++◌, length, take, IsTrue, refl, sym, ap, subst, ◌∙◌, arith, append_assoc, length-take-le, length-append, Option, Some, None}
 use Rattle.std.proofs.lemmas.List.{append-nil}
 use Rattle.byte_base.specs.Count.{Rose}
-use Rattle.shell_top.specs.Ends.{SourceState, SourceSteady, SinkState, SinkSteady, Gives}
+use Rattle.shell_lang.specs.Ends.{SourceState, SourceSteady, SinkState, SinkSteady, Gives}
 use Rattle.shell_top.specs.Line.{HasNoFeed, last_line}
 use Rattle.shell_top.specs.Machine.{Machine}
 use Rattle.shell_top.specs.Ran.{most_input, Answered, Begun, ToTheEnd, SoFar, CutOff, Went}

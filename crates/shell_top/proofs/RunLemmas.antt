@@ -2,7 +2,7 @@ use Rattle.std.proofs.Common.{◌≡◌, ◌≢◌, ℕ, ◌+◌, ◌-◌, ◌<�
 use Rattle.std.specs.Prelude.{Result, Ok, Err, OnErr}
 use Rattle.std.specs.List.{AllByRecursion, flat_map}
 use Rattle.std.proofs.lemmas.List.{append-nil, take_all, take-append-drop, take_more}
-use Rattle.shell_top.specs.Ends.{SinkState, SinkSteady, Takes}
+use Rattle.shell_lang.specs.Ends.{SinkState, SinkSteady, Takes}
 use Rattle.shell_top.specs.Line.{HasNoFeed, Cuts, ended}
 use Rattle.shell_top.specs.Machine.{Machine, Step, Run}
 use Rattle.shell_top.specs.Reply.{text_of, texts_of}

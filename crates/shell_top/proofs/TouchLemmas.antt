@@ -1,22 +1,24 @@
-use Rattle.std.proofs.Common.{◌≡◌, ℕ, ◌≤◌, List, [], length, IsTrue, refl, sym, ap, subst, ◌∙◌, arith, None, unwrap_or}
+use Rattle.std.proofs.Common.{◌≡◌, ℕ, ◌≤◌, List, [], length, IsTrue, refl, sym, ap, subst, ◌∙◌, arith, Option, Some, None, unwrap_or}
 use Rattle.vfs_model.specs.File.{FileState}
-use Rattle.vfs_model.specs.Effect.{NoLooser}
+use Rattle.vfs_model.specs.Effect.{NoLooser, OpenFailed, Closed}
 use Rattle.vfs_model.specs.Store.{OthersStay}
+use Rattle.vfs_model.specs.Sound.{MakesNoneWild, Each}
 use Rattle.vfs_model.specs.Laws.{LooserTwice}
 use Rattle.vfs_model.specs.declared.layer.Layer.{Layer}
 use Rattle.vfs_model.specs.declared.name.Kind.{Kind}
 use Rattle.vfs_model.specs.declared.name.Kind.TheVariants.{Main, Journal, Super}
-use Rattle.vfs_trait.specs.State.{StackState, Steady, OpenStays, NoneOpen, IsFree, name_at}
-use Rattle.vfs_trait.specs.Calls.{MayWrite, MayCutTo, checked}
+use Rattle.vfs_trait.specs.State.{StackState, Steady, OpenStays, NoneOpen, IsFree, Stands as StackStands, name_at}
+use Rattle.vfs_trait.specs.Calls.{Leaves, MayWrite, MayCutTo, checked}
 use Rattle.vfs_trait.specs.Free.{SeparateIsFree}
 use Rattle.shell_top.specs.Touched.{OnlyTouches}
-use Rattle.shell_top.specs.Stands.{Keeps}
+use Rattle.shell_top.specs.Stands.{Keeps, TableStands}
+use Rattle.shell_top.specs.declared.session.Table.{Table}
 use Rattle.shell_top.specs.declared.session.Session.{Session}
 
 pub no_looser_same : (file : FileState) → NoLooser file file
 no_looser_same file = record {
   now = refl;
-  wild = refl;
+  tame = λ is. is;
   sure = λ is. is;
   stop = λ tame. record { kept = λ place any kept. kept; floor_is = omega arith; reach_is = omega arith };
 }
@@ -91,3 +93,26 @@ may_cut layers kind len bare =
 -- where no file is open, each short name is free
 pub free_of : SeparateIsFree → (s : StackState) (name : List ℕ) → NoneOpen s → length name ≤ 64 → IsFree s name
 free_of free s name none short = free s name (omega (arith, short)) (λ fid other is. absurd (cc (none fid, is)))
+
+-- what a failed opening left of a file stays so where the file gets no looser
+pub failed_on : LooserTwice → (old mid new : FileState) → OpenFailed old mid → NoLooser mid new → OpenFailed old new
+failed_on twice old mid new failed left = record {
+  found = λ there tame. twice old mid new (failed.found there tame) left;
+  made = λ missing. ap (λ f. f.bytes) left.now ∙ failed.made missing;
+  tame = λ tame. left.tame (failed.tame tame);
+  longest = λ tame. omega (arith, failed.longest tame, (left.stop (failed.tame tame)).reach_is);
+}
+
+-- over no layers no file is wild, so that closing the table's file leaves it as it is
+pub closed_leaves : (name : List ℕ) (table : Option Table) (open_table closed_table : Table) (old new : StackState) → TableStands name table old → table ≡ Some open_table
+    → closed_table ≡ open_table → StackStands old → Leaves old new (name_at old closed_table.file.0) Closed → Leaves old new name NoLooser
+closed_leaves name table open_table closed_table old new stands is same shows left =
+    let P : Option Table → Type 0 = λ t. TableStands name t old in
+    let kept : TableStands name (Some closed_table) old = subst P (is ∙ ap (λ t. Some t) (sym same)) stands in
+    let Q : List ℕ → Type 0 = λ n. Leaves old new n Closed in
+    let closed : Leaves old new name Closed = subst Q (ap (λ o. unwrap_or o []) kept.0) left in
+    let E : List Layer → Type 0 = λ layers. Each MakesNoneWild layers in
+    record {
+      file = λ told. (closed.file told).tame ((shows.sound told).tame (subst E (sym kept.1.bare) tt) name);
+      others = closed.others;
+    }

@@ -2,13 +2,10 @@ pub mod Words
 pub mod Line
 pub mod Rows
 pub mod Kept
-pub mod Ends
 pub mod Reply
 pub mod Machine
 pub mod Touched
 pub mod Stands
-pub mod SureEnds
-pub mod ListEnds
 pub mod Faults
 pub mod Running
 pub mod Ran

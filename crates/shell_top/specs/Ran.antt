@@ -4,12 +4,12 @@ use Rattle.byte_base.specs.Count.{Rose}
 use Rattle.vfs_model.specs.Store.{OthersStay, present}
 use Rattle.vfs_model.specs.View.{through}
 use Rattle.vfs_trait.specs.State.{StackState, Steady}
-use Rattle.shell_top.specs.Ends.{SourceState, SinkState}
+use Rattle.shell_lang.specs.Ends.{SourceState, SinkState}
 use Rattle.shell_top.specs.Line.{Cuts, last_line}
 use Rattle.shell_top.specs.Machine.{Machine, Opens, Run, content}
 use Rattle.shell_top.specs.Reply.{texts_of}
 use Rattle.shell_top.specs.Rows.{row_file}
-use Rattle.shell_top.specs.Touched.{RefusedStays}
+use Rattle.shell_top.specs.Touched.{RefusedStays, UnopenedStays}
 use Rattle.shell_top.specs.declared.reply.Reply.{Reply}
 use Rattle.shell_top.specs.declared.status.Status.{Status}
 use Rattle.shell_top.specs.declared.status.Status.TheVariants.{Done, Stopped, Words, Memory, ReadFault, WriteFault, TooMuch}
@@ -95,6 +95,8 @@ pub record Ran (name : List ℕ) (stack0 stack1 : StackState) (in0 in1 : SourceS
   pub device : end.stopped ≡ false → IsTrue stack0.tells → (stack1.files name).wild ≡ false → content (through stack1.layers (present stack1.base) name) ≡ row_file end.rows
   -- a file that is not empty is refused and stays as it was
   pub refused : RefusedStays opening stack0 stack1 name
+  -- and so does, up to being made and empty, any file whose opening is not answered `open`
+  pub unopened : UnopenedStays opening stack0 stack1 name
   -- and names that are apart from this one keep their files in every run
   pub others : IsTrue stack0.tells → OthersStay stack0.layers stack0.files stack1.files name
   pub steady : Steady stack0 stack1

@@ -1,6 +1,6 @@
 -- How far a run has come: the lines cut so far, the replies to them, and what the sink has taken of those.
 use Rattle.std.specs.Prelude.{◌≡◌, ℕ, List, [], ◌++◌, IsTrue}
-use Rattle.shell_top.specs.Ends.{SinkState}
+use Rattle.shell_lang.specs.Ends.{SinkState}
 use Rattle.shell_top.specs.Line.{Cuts}
 use Rattle.shell_top.specs.Machine.{Machine, Run}
 use Rattle.shell_top.specs.Reply.{texts_of}

@@ -3,9 +3,7 @@
 
 ghost use Rattle.shell_top.specs.Faults.{FaultsCounted};
 
-mod ends;
 mod line;
-mod list_ends;
 mod reply;
 mod rows;
 mod run;
@@ -16,8 +14,9 @@ mod tests;
 mod top;
 mod words;
 
-pub use ends::{ReadFailed, Sink, SinkFault, Source, SureSink, SureSource};
-pub use list_ends::{ListSink, ListSource};
+pub use shell_lang::{
+    ListSink, ListSource, ReadFailed, Sink, SinkFault, Source, SureSink, SureSource,
+};
 pub use status::Status;
 pub use top::vfsh_run;
 

@@ -2,15 +2,15 @@
 
 ghost use Rattle.std.specs.Prelude.{◌≡◌, ℕ, ◌+◌, ◌*◌, ◌^◌, ◌≤◌, List, [], ◌∷◌, length, OnOk, OnErr, IsErrOf};
 ghost use Rattle.byte_base.specs.Count.{Rose};
-ghost use Rattle.shell_top.specs.Ends.{SinkSteady};
+ghost use Rattle.shell_lang.specs.Ends.{SinkSteady};
 ghost use Rattle.shell_top.specs.Line.{HasNoFeed, last_line};
 ghost use Rattle.shell_top.specs.Running.{Took, TookSome, AllRun, SomeRun, BytesRun, BytesStopped};
 ghost use Rattle.shell_top.specs.Status.{halt_status};
 ghost use Rattle.shell_top.specs.Stands.{machine, Stands, Keeps, rows_len};
 
-use crate::ends::{Sink, SinkFault};
 use crate::session::Session;
 use crate::status::Status;
+use shell_lang::{Sink, SinkFault};
 use std::alloc::Global;
 use vfs_model::looser_twice;
 use vfs_trait::Vfs;

@@ -8,7 +8,7 @@ ghost use Rattle.vfs_trait.specs.State.{NoneOpen, IsOpen, Steady, OpenStays, fil
 ghost use Rattle.vfs_trait.specs.Calls.{Leaves};
 ghost use Rattle.shell_top.specs.Rows.{row_file};
 ghost use Rattle.shell_top.specs.Machine.{Opens, Step};
-ghost use Rattle.shell_top.specs.Touched.{OnlyTouches, RefusedStays};
+ghost use Rattle.shell_top.specs.Touched.{OnlyTouches, RefusedStays, UnopenedStays};
 ghost use Rattle.shell_top.specs.Stands.{machine, Stands, Keeps, IsKept, rows_len, OpensEmpty, HasCause, reply_for, end_status};
 
 use crate::line::read_put;
@@ -58,6 +58,7 @@ impl Session {
         ensures empty { rows_len result.0 ≡ 0 }
         ensures touches { OnlyTouches name.now (V.state stack.old) (V.state stack.new) }
         ensures refused { RefusedStays result.1 (V.state stack.old) (V.state stack.new) name.now }
+        ensures unopened { UnopenedStays result.1 (V.state stack.old) (V.state stack.new) name.now }
     {
         match open_empty(stack, name) {
             Ok(file) => {
@@ -125,6 +126,7 @@ impl Session {
         ensures leaves { Leaves (V.state stack.old) (V.state stack.new) self.name NoLooser }
     {
         if let Some(table) = self.table {
+            stack.view_holds();
             stack.close(table.file);
         }
     }
@@ -138,6 +140,7 @@ fn open_empty<V: Vfs>(stack: &mut V, name: &Name) -> Result<Fid, Reply>
     ensures touches { OnlyTouches name.now (V.state stack.old) (V.state stack.new) }
     ensures opens { OpensEmpty (V.state stack.old) (V.state stack.new) name.now result }
     ensures refused { IfErr result (λ reply. RefusedStays reply (V.state stack.old) (V.state stack.new) name.now) }
+    ensures unopened { IfErr result (λ reply. UnopenedStays reply (V.state stack.old) (V.state stack.new) name.now) }
 {
     separate_is_free();
     looser_twice();

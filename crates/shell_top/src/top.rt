@@ -3,17 +3,17 @@
 ghost use Rattle.std.specs.Prelude.{◌≡◌, ℕ, ◌+◌, ◌*◌, ◌≤◌, List, [], length, take, map, string_bytes, IfOk, OnErr, IsTrue};
 ghost use Rattle.byte_base.specs.Count.{Rose};
 ghost use Rattle.vfs_trait.specs.State.{NoneOpen};
-ghost use Rattle.shell_top.specs.Ends.{SourceSteady, Gives};
+ghost use Rattle.shell_lang.specs.Ends.{SourceSteady, Gives};
 ghost use Rattle.shell_top.specs.Ran.{Ran, Went};
 ghost use Rattle.shell_top.specs.Stands.{machine, Stands, Keeps, rows_len};
 ghost use Rattle.shell_top.specs.Words.{AreWords, AreRefused, layers_of};
 
-use crate::ends::{ReadFailed, Sink, Source};
 use crate::reply::Reply;
 use crate::run::{run_bytes, run_last, write_all};
 use crate::session::Session;
 use crate::status::Status;
 use crate::words::read_words;
+use shell_lang::{ReadFailed, Sink, Source};
 use std::alloc::Global;
 use vfs_model::looser_twice;
 use vfs_trait::Vfs;

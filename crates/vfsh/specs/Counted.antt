@@ -1,9 +1,9 @@
 -- Counts of faults that rise at each fault and at nothing else.
 use Rattle.std.specs.Prelude.{◌≡◌, ℕ, zero, suc, ◌+◌, min, Result, Ok, Err}
 use Rattle.byte_base.specs.Count.{last_count}
-use Rattle.shell_top.specs.declared.ends.SinkFault.{SinkFault}
-use Rattle.shell_top.specs.declared.ends.SinkFault.TheVariants.{Failed, Memory}
-use Rattle.shell_top.specs.declared.ends.ReadFailed.{ReadFailed}
+use Rattle.shell_lang.specs.declared.ends.SinkFault.{SinkFault}
+use Rattle.shell_lang.specs.declared.ends.SinkFault.TheVariants.{Failed, Memory}
+use Rattle.shell_lang.specs.declared.ends.ReadFailed.{ReadFailed}
 
 -- a count behind one more fault: it stays at the last one
 abbrev pub one_more : ℕ → ℕ

@@ -1,6 +1,6 @@
 -- The system's ends, which tell nothing of what they hold or have taken: only their faults are counted.
 use Rattle.std.specs.Prelude.{false, []}
-use Rattle.shell_top.specs.Ends.{SourceState, SinkState}
+use Rattle.shell_lang.specs.Ends.{SourceState, SinkState}
 use Rattle.vfsh.specs.declared.ends.StdinSource.{StdinSource}
 use Rattle.vfsh.specs.declared.ends.StdoutSink.{StdoutSink}
 

@@ -5,7 +5,7 @@
 
 ghost use Rattle.std.specs.Prelude.{◌≡◌, ℕ, ◌≤◌, length, IsTrue, IfOk, OnErr, IsErrOf};
 ghost use Rattle.byte_base.specs.Count.{Rose};
-ghost use Rattle.shell_top.specs.Ends.{SourceSteady, SinkSteady, Gives, Takes};
+ghost use Rattle.shell_lang.specs.Ends.{SourceSteady, SinkSteady, Gives, Takes};
 ghost use Rattle.vfsh.specs.Counted.{ReadCounts, WriteCounts, one_more};
 
 use crate::again::{read_again, write_again};

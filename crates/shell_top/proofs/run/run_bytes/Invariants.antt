@@ -1,5 +1,5 @@
 use Rattle.std.proofs.Common.{◌+◌, ◌*◌, ◌≤◌, length, take}
-use Rattle.shell_top.specs.Ends.{SinkSteady}
+use Rattle.shell_lang.specs.Ends.{SinkSteady}
 use Rattle.shell_top.specs.Line.{HasNoFeed}
 use Rattle.shell_top.specs.Running.{BytesRun}
 use Rattle.shell_top.specs.Stands.{machine, Stands, Keeps, rows_len}

@@ -1,5 +1,5 @@
 use Rattle.std.proofs.Common.{length}
-use Rattle.shell_top.specs.Ends.{SinkSteady}
+use Rattle.shell_lang.specs.Ends.{SinkSteady}
 use Rattle.shell_top.specs.Running.{Took}
 use Rattle.shell_top.proofs.run.write_all.Given as goal
 

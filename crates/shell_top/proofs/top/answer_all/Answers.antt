@@ -1,7 +1,7 @@
 use Rattle.std.proofs.Common.{ℕ, List, [], drop, ◌++◌, length-take, rules, sym, subst, ap, arith, Err}
 use Rattle.std.proofs.lemmas.List.{take-append-le}
 use Rattle.shell_top.specs.Line.{last_line}
-use Rattle.shell_top.specs.Ends.{Gives}
+use Rattle.shell_lang.specs.Ends.{Gives}
 use Rattle.shell_top.specs.Reply.{text_of}
 use Rattle.shell_top.specs.Running.{AllRun, SomeRun, BytesRun, BytesStopped}
 use Rattle.shell_top.specs.Stands.{machine, end_status}

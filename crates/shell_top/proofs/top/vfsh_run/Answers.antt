@@ -16,4 +16,4 @@ returns-clause-ran g c name words =
     (stack c.close.new.stack) c.start-session.result.0 c.answer_all-status.new.session (source c.args.input.now) (source c.answer_all-status.new.input)
     (sink c.args.output.now) (sink c.answer_all-status.new.output) c.answer_all-status.result c.start-session.result.1
     c.start-session.ensures.named c.start-session.ensures.opens c.answer_all-status.ensures.went c.answer_all-status.ensures.stands
-    c.start-session.ensures.touches c.start-session.ensures.refused c.answer_all-status.ensures.keeps c.close.ensures.steady c.close.ensures.leaves c.view_holds.ensures.stands)
+    c.start-session.ensures.touches c.start-session.ensures.refused c.start-session.ensures.unopened c.answer_all-status.ensures.keeps c.close.ensures.steady c.close.ensures.leaves c.view_holds.ensures.stands)

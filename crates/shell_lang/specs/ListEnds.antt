@@ -1,8 +1,8 @@
 -- The ends in memory whose calls fail by number.
 use Rattle.std.specs.Prelude.{true, drop}
-use Rattle.shell_top.specs.Ends.{SourceState, SinkState}
-use Rattle.shell_top.specs.declared.list_ends.ListSource.{ListSource}
-use Rattle.shell_top.specs.declared.list_ends.ListSink.{ListSink}
+use Rattle.shell_lang.specs.Ends.{SourceState, SinkState}
+use Rattle.shell_lang.specs.declared.list_ends.ListSource.{ListSource}
+use Rattle.shell_lang.specs.declared.list_ends.ListSink.{ListSink}
 
 abbrev pub list_source : ListSource → SourceState
 list_source s = record { tells = true; holds = drop s.at s.bytes; faults = s.calls.faults }

@@ -2,11 +2,11 @@
 
 ghost use Rattle.std.specs.Prelude.{◌≡◌, ℕ, ◌≤◌, [], ◌+◌, ◌-◌, ◌++◌, length, take, drop, min, IsTrue, IfOk, OnErr, IsErrOf};
 ghost use Rattle.byte_base.specs.Count.{Rose};
-ghost use Rattle.shell_top.specs.Ends.{SourceState, SinkState, SourceSteady, SinkSteady, Gives, Takes};
+ghost use Rattle.shell_lang.specs.Ends.{SourceState, SinkState, SourceSteady, SinkSteady, Gives, Takes};
 
+use byte_base::Bytes;
 use std::alloc::Global;
 use thiserror::Error;
-use vfs_trait::Bytes;
 
 /// The source failed, and its count of faults rose.
 #[derive(Clone, Copy, Debug, Error)]
@@ -61,7 +61,7 @@ pub struct SureSource {
 }
 
 impl SureSource {
-    ghost use Rattle.shell_top.specs.SureEnds.{source_state};
+    ghost use Rattle.shell_lang.specs.SureEnds.{source_state};
 
     /// A source of these bytes, without taking memory.
     pub fn new(bytes: Bytes) -> SureSource
@@ -72,7 +72,7 @@ impl SureSource {
 }
 
 impl Source for SureSource {
-    ghost use Rattle.shell_top.specs.SureEnds.{source_state};
+    ghost use Rattle.shell_lang.specs.SureEnds.{source_state};
 
     ghost state = { source_state };
 
@@ -102,7 +102,7 @@ pub struct SureSink {
 }
 
 impl SureSink {
-    ghost use Rattle.shell_top.specs.SureEnds.{sink_state};
+    ghost use Rattle.shell_lang.specs.SureEnds.{sink_state};
 
     /// A sink that has taken nothing yet.
     pub fn new(alloc: Global) -> SureSink
@@ -122,7 +122,7 @@ impl SureSink {
 }
 
 impl Sink for SureSink {
-    ghost use Rattle.shell_top.specs.SureEnds.{sink_state};
+    ghost use Rattle.shell_lang.specs.SureEnds.{sink_state};
 
     ghost state = { sink_state };
 

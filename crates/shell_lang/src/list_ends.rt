@@ -4,8 +4,8 @@ ghost use Rattle.std.specs.Prelude.{◌≡◌, ℕ, ◌≤◌, [], length, IfNon
 ghost use Rattle.byte_base.specs.Count.{Rose};
 
 use crate::ends::{ReadFailed, Sink, SinkFault, Source, move_from};
+use byte_base::Bytes;
 use std::alloc::Global;
-use vfs_trait::Bytes;
 
 /// The calls of an end, numbered from 1.
 #[derive(Drop)]
@@ -68,7 +68,7 @@ pub struct ListSource {
 }
 
 impl ListSource {
-    ghost use Rattle.shell_top.specs.ListEnds.{list_source};
+    ghost use Rattle.shell_lang.specs.ListEnds.{list_source};
 
     /// A source of these bytes. The calls with these numbers, from 1, fail and move nothing; the k-th call
     /// moves the k-th piece at most, and a piece 0 counts as 1, since a source that moves nothing has ended.
@@ -85,7 +85,7 @@ impl ListSource {
 }
 
 impl Source for ListSource {
-    ghost use Rattle.shell_top.specs.ListEnds.{list_source};
+    ghost use Rattle.shell_lang.specs.ListEnds.{list_source};
 
     ghost state = { list_source };
 
@@ -108,7 +108,7 @@ pub struct ListSink {
 }
 
 impl ListSink {
-    ghost use Rattle.shell_top.specs.ListEnds.{list_sink};
+    ghost use Rattle.shell_lang.specs.ListEnds.{list_sink};
 
     /// A sink that has taken nothing yet. The calls with these numbers, from 1, fail and take nothing; the
     /// k-th call takes the k-th piece at most, and a piece 0 is an answer 0, which counts as a failure.
@@ -131,7 +131,7 @@ impl ListSink {
 }
 
 impl Sink for ListSink {
-    ghost use Rattle.shell_top.specs.ListEnds.{list_sink};
+    ghost use Rattle.shell_lang.specs.ListEnds.{list_sink};
 
     ghost state = { list_sink };
 

@@ -1,8 +1,8 @@
 -- The ends in memory that never fail.
 use Rattle.std.specs.Prelude.{true, drop}
-use Rattle.shell_top.specs.Ends.{SourceState, SinkState}
-use Rattle.shell_top.specs.declared.ends.SureSource.{SureSource}
-use Rattle.shell_top.specs.declared.ends.SureSink.{SureSink}
+use Rattle.shell_lang.specs.Ends.{SourceState, SinkState}
+use Rattle.shell_lang.specs.declared.ends.SureSource.{SureSource}
+use Rattle.shell_lang.specs.declared.ends.SureSink.{SureSink}
 
 abbrev pub source_state : SureSource → SourceState
 source_state s = record { tells = true; holds = drop s.at s.bytes; faults = 0 }

@@ -7,8 +7,7 @@ use Rattle.page_list.specs.Edits.{after_give, after_gives}
 use Rattle.page_list.proofs.ChainLemmas.{among-here, among-back}
 use Rattle.page_pool.specs.Space.{SpaceState, Steady, Stays}
 use Rattle.page_pool.specs.Pool.{HasNoRoom, Given, GiveRefused}
-use Rattle.payload_chain.specs.Chains.{midway, MayGiveEach, GaveEach, Freed, StopsFreeing}
-use Rattle.payload_chain.specs.Steps.{HasPages, GaveAll, StopsGiving}
+use Rattle.payload_chain.specs.Chains.{midway, MayGiveEach, HasPages, GaveEach, GaveAll, StopsGivingEach, Freed, StopsFreeing}
 use Rattle.payload_chain.proofs.StateLemmas.{here, steady-on, steady-here, stays-here, at_same}
 use Rattle.payload_chain.proofs.CountLemmas.{needed-some}
 use Rattle.db_format.specs.declared.fault.SpaceFault.{SpaceFault}
@@ -76,7 +75,7 @@ refused-here c x (Corrupt page) s r = (stays-here s r.0, λ t. r.1 (s.told ∙ t
 refused-here c x (Large pages) s r = absurd r
 
 pub stops-giving : {old now : SpaceState} (new : SpaceState) (numbers : List ℕ) (i : ℕ) (fault : SpaceFault) → i < length numbers → GaveEach old now (take i numbers)
-    → GiveRefused now new (slice_index numbers i) fault → StopsGiving old new numbers fault
+    → GiveRefused now new (slice_index numbers i) fault → StopsGivingEach old new numbers fault
 stops-giving {now = now} new numbers i fault below gave refused = record {
   given = take i numbers;
   number = slice_index numbers i;
@@ -99,18 +98,32 @@ freed {old = old} {len = len} {numbers = numbers} steady stays has gave = record
   change = λ some. gave.change (let least = steady.sizes.least in omega (arith, has.enough, steady.used, needed-some old.pages.usable len (omega arith) some));
 }
 
-pub stops-freeing : {old mid new : SpaceState} {first len : ℕ} {numbers : List ℕ} (fault : SpaceFault) → Steady old mid → Stays old mid → HasPages old first len numbers
-    → StopsGiving mid new numbers fault → StopsFreeing old new first len fault
-stops-freeing {mid = mid} {new = new} fault steady stays has stops =
+pub stops-later : {old mid new : SpaceState} {numbers : List ℕ} (fault : SpaceFault) → Steady old mid → Stays old mid → StopsGivingEach mid new numbers fault
+    → StopsGivingEach old new numbers fault
+stops-later {mid = mid} {new = new} fault steady stays stops =
     let gave = gave-later steady stays stops.gave in
     record {
       given = stops.given;
       number = stops.number;
       more = stops.more;
-      payload = has.payload;
-      chain = λ t. rw stops.are at (has.chain t);
-      long = has.long;
+      are = stops.are;
       met = here (midway mid stops.met);
       gave = gave-here gave;
       refused = refused-here new stops.number fault gave.steady stops.refused;
+    }
+
+pub stops-freeing : {old mid new : SpaceState} {first len : ℕ} {numbers : List ℕ} (fault : SpaceFault) → Steady old mid → Stays old mid → HasPages old first len numbers
+    → StopsGivingEach mid new numbers fault → StopsFreeing old new first len fault
+stops-freeing fault steady stays has stops =
+    let later = stops-later fault steady stays stops in
+    record {
+      given = later.given;
+      number = later.number;
+      more = later.more;
+      payload = has.payload;
+      chain = λ t. rw later.are at (has.chain t);
+      long = has.long;
+      met = later.met;
+      gave = later.gave;
+      refused = later.refused;
     }

@@ -7,8 +7,8 @@ use Rattle.std.proofs.lemmas.List.{take-take, take_all, length-take-le}
 use Rattle.std.specs.List.{flat_map}
 use Rattle.page_list.specs.Chain.{pages_needed, piece}
 use Rattle.page_pool.specs.Space.{SpaceState, HasSizes}
-use Rattle.payload_chain.specs.Chains.{Found}
-use Rattle.payload_chain.specs.Steps.{HasPages, StepsOn}
+use Rattle.payload_chain.specs.Chains.{Found, HasPages}
+use Rattle.payload_chain.specs.Steps.{StepsOn}
 use Rattle.payload_chain.specs.declared.walk.Walk.{Walk}
 use Rattle.payload_chain.proofs.CountLemmas.{needed_enough, needed-above}
 use Rattle.payload_chain.proofs.WalkLemmas.{WalksAlong, pieces-long}

@@ -11,8 +11,8 @@ use Rattle.page_list.specs.Pages.{Pages, HasPage, times}
 use Rattle.page_list.specs.Chain.{HasWalked, pages_needed, piece, holder}
 use Rattle.page_list.proofs.ChainLemmas.{times-append, same_or_other, walked-more, holder-more, among-more, among-here, among-cons}
 use Rattle.page_pool.specs.Space.{SpaceState, HasSizes, Steady, Stays}
-use Rattle.payload_chain.specs.Chains.{ReadRefused, HasEach}
-use Rattle.payload_chain.specs.Steps.{HasMet, HasPages, StepsOn, StepRefused}
+use Rattle.payload_chain.specs.Chains.{ReadRefused, HasEach, HasPages}
+use Rattle.payload_chain.specs.Steps.{HasMet, StepsOn, StepRefused}
 use Rattle.payload_chain.specs.declared.walk.Walk.{Walk}
 use Rattle.payload_chain.proofs.StateLemmas.{steady-on, stays-on, rose-on, page-later}
 use Rattle.payload_chain.proofs.CountLemmas.{needed_enough}

@@ -40,6 +40,18 @@ ReadRefused old new first len (Bad page kept found) = IsTrue old.tells → Fails
 ReadRefused old new first len (Corrupt page) = IsTrue old.tells → BreaksAt old.pages first len page
 ReadRefused old new first len (Large pages) = ⊥
 
+-- each of the numbers is a page's
+pub record HasEach (pages : Pages) (numbers : List ℕ) : Type 0 where
+  pub each : (number : ℕ) → Among numbers number → HasPage pages number
+
+-- as many pages as the chain of so many bytes needs, all there; where it is told, they are the chain's
+pub record HasPages (s : SpaceState) (first len : ℕ) (numbers : List ℕ) : Type 0 where
+  pub there : HasEach s.pages numbers
+  pub enough : length numbers ≡ pages_needed s.pages.usable len
+  pub payload : List ℕ
+  pub long : length payload ≡ len
+  pub chain : IsTrue s.tells → IsChain s.pages first numbers payload
+
 -- each of these pages may be given, when those before it are: the head of the freelist is not damaged then, nor the
 -- page where it becomes a trunk
 abbrev pub MayGiveEach : ℕ → List ℕ → Pages → Type 0
@@ -53,6 +65,21 @@ pub record GaveEach (old new : SpaceState) (numbers : List ℕ) : Type 0 where
   pub size : new.pages.size ≡ old.pages.size
   pub may : IsTrue old.tells → MayGiveEach old.page_size numbers old.pages
   pub pages_are : IsTrue old.tells → new.pages ≡ after_gives old.page_size numbers old.pages
+
+-- all of these pages were given
+pub record GaveAll (old new : SpaceState) (numbers : List ℕ) : Type 0 where
+  pub gave : GaveEach old new numbers
+  pub change : 1 ≤ length numbers → IsTrue new.changed
+
+-- some of these pages were given, and the next was refused
+pub record StopsGivingEach (old new : SpaceState) (numbers : List ℕ) (fault : SpaceFault) : Type 0 where
+  pub given : List ℕ
+  pub number : ℕ
+  pub more : List ℕ
+  pub are : numbers ≡ given ++ number ∷ more
+  pub met : Midway
+  pub gave : GaveEach old (midway old met) given
+  pub refused : GiveRefused (midway old met) new number fault
 
 -- the chain of so many bytes was there, and its pages were given, in order
 pub record Freed (old new : SpaceState) (first len : ℕ) : Type 0 where
@@ -92,10 +119,6 @@ pub record TookEach (old new : SpaceState) (count : ℕ) : Type 0 where
   pub no_more : new.pages.size ≤ old.pages.size + count
   pub may : IsTrue old.tells → MayTakeEach old.page_size count old.pages
   pub pages_are : IsTrue old.tells → new.pages ≡ after_takes old.page_size count old.pages
-
--- each of the numbers is a page's
-pub record HasEach (pages : Pages) (numbers : List ℕ) : Type 0 where
-  pub each : (number : ℕ) → Among numbers number → HasPage pages number
 
 -- these pages were taken, as many as that
 pub record TookThese (old new : SpaceState) (count : ℕ) (numbers : List ℕ) : Type 0 where

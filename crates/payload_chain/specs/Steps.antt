@@ -1,16 +1,14 @@
 -- Words for the steps inside the crate; no contract of a function that it shows to others needs them.
-use Rattle.std.specs.Prelude.{◌≡◌, ◌⊎◌, ℕ, ◌≤◌, nat_lt, List, [], ◌∷◌, ◌++◌, length, Some, IsTrue}
+use Rattle.std.specs.Prelude.{◌≡◌, ◌⊎◌, ℕ, nat_lt, List, [], ◌∷◌, ◌++◌, length, Some, IsTrue}
 use Rattle.std.specs.Ordering.{nat_cmp}
 use Rattle.std.specs.BTreeSet.{BTreeSet, contains}
 use Rattle.byte_base.specs.Count.{Rose}
 use Rattle.byte_base.specs.Numbers.{number_at}
 use Rattle.page_list.specs.Pages.{HasPage, IsGood, Among, times}
-use Rattle.page_list.specs.Chain.{IsChain, pages_needed}
 use Rattle.page_pool.specs.Space.{SpaceState, Steady}
-use Rattle.page_pool.specs.Pool.{GiveRefused}
 use Rattle.db_format.specs.declared.fault.SpaceFault.{SpaceFault}
 use Rattle.db_format.specs.declared.fault.SpaceFault.TheVariants.{Failed, Memory, Bad, Corrupt, Large}
-use Rattle.payload_chain.specs.Chains.{Midway, midway, GaveEach, HasEach, PutRefused, OnlyThese, with_chain, first_of}
+use Rattle.payload_chain.specs.Chains.{PutRefused, OnlyThese, with_chain, first_of}
 use Rattle.payload_chain.specs.declared.walk.Walk.{Walk}
 
 -- the set has the numbers of the list
@@ -50,29 +48,6 @@ StepRefused old new walk (Large pages) = ⊥
 pub record IsBehind (before after : List ℕ) : Type 0 where
   pub more : List ℕ
   pub behind : after ≡ before ++ more
-
--- as many pages as the chain of so many bytes needs, all there; where it is told, they are the chain's
-pub record HasPages (s : SpaceState) (first len : ℕ) (numbers : List ℕ) : Type 0 where
-  pub there : HasEach s.pages numbers
-  pub enough : length numbers ≡ pages_needed s.pages.usable len
-  pub payload : List ℕ
-  pub long : length payload ≡ len
-  pub chain : IsTrue s.tells → IsChain s.pages first numbers payload
-
--- all of these pages were given
-pub record GaveAll (old new : SpaceState) (numbers : List ℕ) : Type 0 where
-  pub gave : GaveEach old new numbers
-  pub change : 1 ≤ length numbers → IsTrue new.changed
-
--- some of these pages were given, and the next was refused
-pub record StopsGiving (old new : SpaceState) (numbers : List ℕ) (fault : SpaceFault) : Type 0 where
-  pub given : List ℕ
-  pub number : ℕ
-  pub more : List ℕ
-  pub are : numbers ≡ given ++ number ∷ more
-  pub met : Midway
-  pub gave : GaveEach old (midway old met) given
-  pub refused : GiveRefused (midway old met) new number fault
 
 -- the bytes were put to these pages, none of which was bad
 pub record PutEach (old new : SpaceState) (numbers rest : List ℕ) (first : ℕ) : Type 0 where

@@ -3,8 +3,7 @@
 ghost use Rattle.std.specs.Prelude.{IfOk, IfErr, OnOk};
 ghost use Rattle.page_pool.specs.Space.{IsReady, IsWritable, HasSizes, Steady, Stays};
 ghost use Rattle.page_pool.specs.Pool.{NotesChange};
-ghost use Rattle.payload_chain.specs.Chains.{ReadRefused, Freed, FreeRefused, HasEach};
-ghost use Rattle.payload_chain.specs.Steps.{HasPages, GaveAll, StopsGiving};
+ghost use Rattle.payload_chain.specs.Chains.{ReadRefused, Freed, FreeRefused, HasEach, HasPages, GaveAll, StopsGivingEach};
 
 use crate::walk::{Walk, page_buffer, pages_needed};
 use page_pool::{PageSpace, SpaceFault, give_page};
@@ -32,8 +31,11 @@ pub fn free_chain<S: PageSpace>(
     give_pages(alloc, space, &numbers)
 }
 
-/// The pages of a chain, in order.
-fn chain_pages<S: PageSpace>(
+/// The pages of the chain of `len` bytes that begins at page `first`, in their order: none for a chain of no bytes, whose
+/// first page is 0. No page changes.
+///
+/// Refused as reading the chain is.
+pub fn chain_pages<S: PageSpace>(
     alloc: Global,
     space: &mut S,
     first: u32,
@@ -55,13 +57,20 @@ fn chain_pages<S: PageSpace>(
 }
 
 /// Gives pages to the freelist, one after the other.
-fn give_pages<S: PageSpace>(alloc: Global, space: &mut S, numbers: &[u32]) -> Result<(), SpaceFault>
+///
+/// Refused as `give_page` of one of them is: then those before it are given, and no page but page 1, the first trunk and
+/// those given has changed.
+pub fn give_pages<S: PageSpace>(
+    alloc: Global,
+    space: &mut S,
+    numbers: &[u32],
+) -> Result<(), SpaceFault>
     requires writable { IsWritable (S.state space.old) }
     requires sizes { HasSizes (S.state space.old) }
     requires there { HasEach (S.state space.old).pages numbers.now }
     ensures steady { Steady (S.state space.old) (S.state space.new) }
     ensures gave { OnOk result (GaveAll (S.state space.old) (S.state space.new) numbers.now) }
-    ensures refused { IfErr result (StopsGiving (S.state space.old) (S.state space.new) numbers.now) }
+    ensures refused { IfErr result (StopsGivingEach (S.state space.old) (S.state space.new) numbers.now) }
     ensures noted { NotesChange (S.state space.old) (S.state space.new) }
 {
     for number in numbers {

@@ -14,7 +14,7 @@ mod walk;
 mod write;
 
 pub use db_format::local_size;
-pub use free::free_chain;
+pub use free::{chain_pages, free_chain, give_pages};
 pub use laws::{chain_written, written_comes_back};
 pub use read::read_chain;
 pub use write::{take_pages, write_chain};

@@ -12,8 +12,7 @@ use Rattle.tree_page.specs.declared.cell.PageCells.TheVariants.{Leaf as LeafPage
 use Rattle.tree_model.specs.Tree.{Tree, Leaf}
 use Rattle.tree_model.specs.Whole.{IsWholeFor, named_pages}
 use Rattle.tree_model.specs.Need.{use_of}
-use Rattle.tree_laws.specs.Whole.{missing_in}
-use Rattle.tree_put.specs.Keeps.{StaysUnnamed}
+use Rattle.tree_laws.specs.Whole.{StaysUnnamed, missing_in}
 use Rattle.tree_model.specs.Held.{HasCells}
 
 -- a leaf without a row was written to a page: no other page has changed, and page 1 keeps the header of the database

@@ -34,12 +34,18 @@ rest_named front back root before behind trunks n other =
     let d = ap (times n) (first_stays front back root other) in
     omega (arith, a, b, c, d)
 
+-- so it is named as often as without it, and as often as the tree has it
+pub removed_count : (front back : List ℕ) (root : ℕ) (before behind : List Tree) (tree : Tree) (trunks : List Trunk) (n : ℕ) → root ≢ 1
+    → times n (named_pages (front ++ root ∷ back) (before ++ tree ∷ behind) trunks) ≡ times n (named_pages (front ++ back) (before ++ behind) trunks) + times n (pages_of tree)
+removed_count front back root before behind tree trunks n other =
+    omega (arith, split_named (front ++ root ∷ back) before behind tree trunks n, rest_named front back root before behind trunks n other)
+
 pub root_removed : RootRemoved
 root_removed pages front back root before behind tree trunks long other whole =
     let named : List ℕ = named_pages (front ++ root ∷ back) (before ++ tree ∷ behind) trunks in
     let left : List ℕ = named_pages (front ++ back) (before ++ behind) trunks in
     let rest : (n : ℕ) → times n named ≡ times n left + times n (pages_of tree) =
-    λ n. omega (arith, split_named (front ++ root ∷ back) before behind tree trunks n, rest_named front back root before behind trunks n other) in (
+    λ n. removed_count front back root before behind tree trunks n other in (
       record {
         header = whole.header;
         each_tree = zip_removed pages front back root before behind tree long whole.each_tree;

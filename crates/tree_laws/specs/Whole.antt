@@ -1,6 +1,6 @@
 -- Whole pages stay whole while pages are taken and given, and while roots come and go.
 use Rattle.std.specs.Prelude.{◌≡◌, ◌≢◌, ℕ, ◌+◌, ◌≤◌, ◌<◌, nat_lt, if◌then◌else◌, zero, suc, List, [], ◌∷◌, ◌++◌, length}
-use Rattle.page_list.specs.Pages.{Pages, HasPage, IsGood, times, Among, AllDifferent, AreSized}
+use Rattle.page_list.specs.Pages.{Pages, HasPage, IsGood, SamePage, times, Among, AllDifferent, AreSized}
 use Rattle.page_list.specs.Freelist.{Trunk, free_pages, take_each, give_each}
 use Rattle.page_list.specs.Edits.{taken_numbers, after_takes, after_gives}
 use Rattle.tree_model.specs.Tree.{Tree, pages_of}
@@ -25,6 +25,11 @@ abbrev pub WholeGives : Type 0
 WholeGives = (page_size : ℕ) (old : Pages) (roots : List ℕ) (trees : List Tree) (trunks : List Trunk) (numbers : List ℕ) → AreSized page_size old →
     IsWholeFor old roots trees trunks → AreUnnamed old (named_pages roots trees trunks) numbers → ((n : ℕ) → Among numbers n → IsGood old n) →
     IsWholeFor (after_gives page_size numbers old) roots trees (give_each old.usable numbers trunks)
+
+-- a page that nothing named is still named by nothing, and holds what it held
+pub record StaysUnnamed (old new : Pages) (named : List ℕ) (n : ℕ) : Type 0 where
+  pub unnamed : ¬ (Among named n)
+  pub same : SamePage old new n
 
 -- a root other than page 1 is left out, and then nothing names the pages of its tree
 abbrev pub RootRemoved : Type 0

@@ -19,7 +19,7 @@ use Rattle.tree_model.specs.Laws.{shown, row_at}
 use Rattle.tree_model.specs.Need.{use_of}
 use Rattle.tree_model.specs.declared.level.Level.{Level}
 use Rattle.tree_model.specs.declared.ends.PathEnd.TheVariants.{HasPayload}
-use Rattle.tree_laws.specs.Whole.{missing_in}
+use Rattle.tree_laws.specs.Whole.{StaysUnnamed, missing_in}
 use Rattle.page_cut.specs.declared.parts.Sheet.{Sheet}
 use Rattle.tree_level.specs.Level.{numbers}
 use Rattle.tree_plan.specs.declared.leaf.LeafPlan.{LeafPlan}
@@ -107,11 +107,6 @@ abbrev pub put_shown : ℤ × List ℕ → List (ℤ × List ℕ) → List (ℤ 
 put_shown row [] = row ∷ []
 put_shown row (r ∷ more) =
     if int_le row.0 r.0 then (if int_le r.0 row.0 then row ∷ more else row ∷ r ∷ more) else r ∷ put_shown row more
-
--- a page that nothing named is still named by nothing, and holds what it held
-pub record StaysUnnamed (old new : Pages) (named : List ℕ) (n : ℕ) : Type 0 where
-  pub unnamed : ¬ (Among named n)
-  pub same : SamePage old new n
 
 -- What a put leaves of whole pages, where the tree is one of them: they are whole with another tree in its place, which
 -- has its rows with the one that was put. There are no more pages than before, or than are used then, those used before and

@@ -3,7 +3,7 @@
 use Rattle.std.specs.Prelude.{◌≡◌, ◌⊎◌, ℕ, suc, ◌≤◌, ◌<◌, ℤ, int_le, if◌then◌else◌, List, [], ◌∷◌, length, Option, Some, None, IsTrue}
 use Rattle.std.specs.List.{AllByRecursion}
 use Rattle.byte_base.specs.Count.{Rose}
-use Rattle.page_list.specs.Pages.{Pages}
+use Rattle.page_list.specs.Pages.{Pages, HasPage}
 use Rattle.page_pool.specs.Space.{SpaceState, Fails}
 use Rattle.db_format.specs.declared.fault.SpaceFault.{SpaceFault}
 use Rattle.db_format.specs.declared.fault.SpaceFault.TheVariants.{Failed, Memory, Bad, Corrupt, Large}
@@ -59,6 +59,11 @@ SearchRefused old new AtFault Memory = Unit {0}
 SearchRefused old new AtFault (Bad page kept found) = Fails old page kept found × (IsTrue old.tells → AtFault (BadPage page))
 SearchRefused old new AtFault (Corrupt page) = IsTrue old.tells → AtFault (Broken page)
 SearchRefused old new AtFault (Large pages) = ⊥
+
+-- a chain that is broken at a page that is not there is a fault of the leaf; all else stays
+abbrev pub IsOfLeaf : Pages → ℕ → SpaceFault → SpaceFault → Type 0
+IsOfLeaf pages leaf (Corrupt page) after = (HasPage pages page × (after ≡ Corrupt page)) ⊎ (¬ (HasPage pages page) × (after ≡ Corrupt leaf))
+IsOfLeaf pages leaf before after = after ≡ before
 
 -- no page is at fault
 abbrev pub IsNoDamage : SpaceFault → Type 0

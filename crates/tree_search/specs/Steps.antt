@@ -4,9 +4,7 @@ use Rattle.std.specs.Prelude.{◌≡◌, ◌⊎◌, ℕ, ◌≤◌, ℤ, List, l
 use Rattle.std.specs.declared.cmp.Ordering.{Ordering}
 use Rattle.std.specs.Ordering.{nat_cmp, ordering_then}
 use Rattle.std.specs.BTreeSet.{BTreeSet, contains}
-use Rattle.page_list.specs.Pages.{Pages, HasPage}
-use Rattle.db_format.specs.declared.fault.SpaceFault.{SpaceFault}
-use Rattle.db_format.specs.declared.fault.SpaceFault.TheVariants.{Corrupt}
+use Rattle.page_list.specs.Pages.{Pages}
 use Rattle.tree_page.specs.declared.cell.LeafCell.{LeafCell}
 use Rattle.tree_model.specs.Whole.{below_all, most_depth}
 use Rattle.tree_model.specs.declared.ends.Fault.{Fault}
@@ -20,11 +18,6 @@ use Rattle.tree_search.specs.declared.next.Search.{Search}
 -- a cell keeps no more than the payload
 abbrev pub IsKept : LeafCell → Type 0
 IsKept cell = length cell.local ≤ cell.payload_len
-
--- a chain that is broken at a page that is not there is a fault of the leaf; all else stays
-abbrev pub IsOfLeaf : Pages → ℕ → SpaceFault → SpaceFault → Type 0
-IsOfLeaf pages leaf (Corrupt page) after = (HasPage pages page × (after ≡ Corrupt page)) ⊎ (¬ (HasPage pages page) × (after ≡ Corrupt leaf))
-IsOfLeaf pages leaf before after = after ≡ before
 
 -- the path from a page on
 pub record Leads (left : ℕ) (pages : Pages) (above page : ℕ) (key : ℤ) (end : PathEnd) : Type 0 where

@@ -11,5 +11,7 @@ mod payload;
 mod row;
 
 pub use next::next_from;
+pub use page::{MOST_DEPTH, enter, page_buffer};
 pub use path::{Descent, descend};
+pub use payload::of_leaf;
 pub use row::find;

@@ -14,10 +14,10 @@ use std::alloc::Global;
 use tree_page::{PageCells, page_fits, read_page};
 
 /// The most pages from a root to a leaf, both counted.
-pub(crate) const MOST_DEPTH: u32 = 20;
+pub const MOST_DEPTH: u32 = 20;
 
 /// A buffer of one page, of zeros.
-pub(crate) fn page_buffer<S: PageSpace>(alloc: Global, space: &S) -> Result<Vec<u8>, SpaceFault>
+pub fn page_buffer<S: PageSpace>(alloc: Global, space: &S) -> Result<Vec<u8>, SpaceFault>
     requires ready { IsReady (S.state space.now) }
     ensures sizes { HasSizes (S.state space.now) }
     ensures one_page { IfOk result (λ page. length page.items ≡ (S.state space.now).page_size) }
@@ -28,7 +28,10 @@ pub(crate) fn page_buffer<S: PageSpace>(alloc: Global, space: &S) -> Result<Vec<
 
 /// The cells of page `number`, whose number stands on page `above`, where a path may go over `left` more pages, this one
 /// counted. The page is read into a buffer of one page.
-pub(crate) fn enter<S: PageSpace>(
+///
+/// Refused as `get` is, and with `Corrupt` of `above` where there is no such page, else of the page where it lies too deep or
+/// is no page of a tree.
+pub fn enter<S: PageSpace>(
     alloc: Global,
     space: &mut S,
     buffer: &mut [u8],

@@ -3,8 +3,8 @@
 ghost use Rattle.std.specs.Prelude.{◌≡◌, ◌≤◌, length, slice_get, IsTrue, IfOk, IfErr, None};
 ghost use Rattle.page_pool.specs.Space.{IsReady, Steady, Stays};
 ghost use Rattle.tree_model.specs.Walk.{IsReadable, IsUnreadable, first_from};
-ghost use Rattle.tree_search.specs.Search.{SearchRefused};
-ghost use Rattle.tree_search.specs.Steps.{IsKept, IsOfLeaf};
+ghost use Rattle.tree_search.specs.Search.{SearchRefused, IsOfLeaf};
+ghost use Rattle.tree_search.specs.Steps.{IsKept};
 
 use crate::page::has_page;
 use byte_base::Bytes;
@@ -41,8 +41,9 @@ pub(crate) fn payload_of<S: PageSpace>(
     }
 }
 
-/// A chain whose first page is none is a fault of the leaf, which has its number.
-fn of_leaf<S: PageSpace>(space: &S, leaf: u32, fault: SpaceFault) -> SpaceFault
+/// The fault that a chain of a row on page `leaf` was refused with: where the chain is broken at a page that is none, which
+/// can be its first alone, that is a fault of the leaf, which has its number.
+pub fn of_leaf<S: PageSpace>(space: &S, leaf: u32, fault: SpaceFault) -> SpaceFault
     requires ready { IsReady (S.state space.now) }
     ensures { IsOfLeaf (S.state space.now).pages leaf fault result }
 {

@@ -15,7 +15,7 @@ use tree_model::WalkEnd;
 use tree_page::{LeafCells, PageCells, write_page};
 
 /// A space of page 1 alone, with the header of a database and a tree without a row.
-fn database(
+pub(crate) fn database(
     rt: &impl Abort,
     alloc: Global,
     page_size: u32,
@@ -34,7 +34,7 @@ fn database(
 }
 
 /// The pages of a space, for the slow program.
-fn pages_of(rt: &impl Abort, alloc: Global, space: &mut MemSpace) -> Result<RefPages, Fail> {
+pub(crate) fn pages_of(rt: &impl Abort, alloc: Global, space: &mut MemSpace) -> Result<RefPages, Fail> {
     let mut pages = Vec::new(alloc);
     let mut page = vec![in alloc; 0u8; space.page_size() as usize]?;
     for number in 1..space.size().wrapping_add(1) {
@@ -50,7 +50,7 @@ fn pages_of(rt: &impl Abort, alloc: Global, space: &mut MemSpace) -> Result<RefP
 }
 
 /// The payload of a row: `len` bytes that depend on the rowid.
-fn payload_of(alloc: Global, rowid: i64, len: usize) -> Result<Vec<u8>, Fail> {
+pub(crate) fn payload_of(alloc: Global, rowid: i64, len: usize) -> Result<Vec<u8>, Fail> {
     let mut bytes = Vec::new(alloc);
     let start = (rowid & 0x7f) as usize;
     for place in 0..len {
@@ -60,7 +60,7 @@ fn payload_of(alloc: Global, rowid: i64, len: usize) -> Result<Vec<u8>, Fail> {
 }
 
 /// Puts a row.
-fn put_row(
+pub(crate) fn put_row(
     rt: &impl Abort,
     alloc: Global,
     space: &mut MemSpace,
@@ -139,7 +139,7 @@ fn rowid_at(order: Order, at: i64) -> i64 {
 
 /// How many bytes the payload of that row has: 66,000 in each hundredth row, up to 2,000 in each sixth, and up to 150 in the
 /// others.
-fn length_at(at: i64) -> usize {
+pub(crate) fn length_at(at: i64) -> usize {
     let at = (at & 0xff) as usize;
     if at % 100 == 10 {
         66_000

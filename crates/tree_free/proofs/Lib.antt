@@ -1,0 +1,9 @@
+pub mod MetLemmas
+pub mod TopLemmas
+pub mod RowLemmas
+pub mod ChildLemmas
+pub mod WalkLemmas
+pub mod FoundLemmas
+pub mod HeldLemmas
+pub mod FreedLemmas
+pub mod CleanLemmas

@@ -1,6 +1,6 @@
 //! A list of bytes, and a list of such lists.
 
-ghost use Rattle.std.specs.Prelude.{◌≡◌, ℕ, List, [], ◌∷◌, ◌++◌, take, IfOk, OnOk, OnErr};
+ghost use Rattle.std.specs.Prelude.{◌≡◌, ℕ, List, [], ◌∷◌, ◌++◌, ◌≤◌, length, take, IfOk, OnOk, OnErr};
 
 use smallvec::SmallVec;
 use std::alloc::{AllocError, Global};
@@ -38,6 +38,19 @@ impl Bytes {
         Ok(Bytes {
             items: SmallVec::from_slice(alloc, bytes)?,
         })
+    }
+
+    /// A copy of the first `len` bytes. A short one of many bytes is copied by a fixed size, which is the fastest.
+    pub fn copy_front(alloc: Global, bytes: &[u8], len: usize) -> Result<Bytes, AllocError>
+        requires { len ≤ length bytes.now }
+        ensures { IfOk result (λ copy. copy ≡ take len bytes.now) }
+    {
+        match bytes.split_first_chunk::<INLINE>() {
+            Some((front, _)) if len <= INLINE => Ok(Bytes {
+                items: SmallVec::from_buf_and_len(alloc, *front, len),
+            }),
+            _ => Bytes::copy_of(alloc, &bytes[..len]),
+        }
     }
 
     /// The bytes, without taking memory.

@@ -196,11 +196,11 @@ enum Found {
 struct LeafSpot {
     rowid: i64,
     payload_len: u64,
-    /// Where the local part of the payload begins.
-    place: usize,
-    /// How many bytes the local part has.
-    size: usize,
     overflow: u32,
+    /// Where the local part of the payload begins.
+    place: u32,
+    /// How many bytes the local part has.
+    size: u32,
 }
 
 impl Found {
@@ -332,9 +332,9 @@ fn leaf_at(bytes: &[u8], place: usize) -> Option<(Found, usize)>
     let spot = LeafSpot {
         rowid,
         payload_len,
-        place: place + front,
-        size,
         overflow,
+        place: (place + front) as u32,
+        size: size as u32,
     };
     Some((Found::Leaf(spot), front + size + overflow_size))
 }
@@ -466,7 +466,7 @@ fn leaf_of(alloc: Global, bytes: &[u8], spot: &LeafSpot) -> Result<LeafCell, All
     requires { spot.now.place + spot.now.size ≤ length bytes.now }
     ensures { IfOk result (λ cell. leaf cell ≡ cell_of bytes.now (Found.Leaf spot.now)) }
 {
-    let local = Bytes::copy_of(alloc, &bytes[spot.place..spot.place + spot.size])?;
+    let local = Bytes::copy_front(alloc, &bytes[spot.place as usize..], spot.size as usize)?;
     Ok(LeafCell {
         rowid: spot.rowid,
         payload_len: spot.payload_len,

@@ -15,23 +15,23 @@ use Rattle.tree_model.proofs.StayLemmas.{cells_stay}
 use Rattle.tree_page.specs.Page.{inner}
 use Rattle.tree_run.specs.Node.{Piece, cells_of, rows_in, pages_in}
 use Rattle.tree_run.specs.Run.{Run, IsRun, one, Behind, Nothing, Next, within, IsBehind, behind_rows, behind_pages}
-use Rattle.tree_run.specs.Laws.{put_row}
+use Rattle.tree_run.specs.Edit.{edited}
 use Rattle.tree_run.proofs.RunLemmas.{run_within, run_over, children_stay, run_stays_where}
-use Rattle.tree_run.proofs.PutLemmas.{put_within}
+use Rattle.tree_run.proofs.EditLemmas.{edit_within}
 use Rattle.tree_run.proofs.RootLemmas.{root_over}
 use Rattle.tree_level.proofs.PartLemmas.{root_join}
 use Rattle.tree_level.specs.Level.{numbers, LeafStep, with_ups, InnerStep, InnerKept, RootGrows, RootStays}
 use Rattle.tree_level.proofs.PartLemmas.{leaf_parts, inner_parts}
 
 pub leaf_step : LeafStep
-leaf_step new low high root page row was rows front last fresh gone are put chains parts on =
+leaf_step new low high root page edit was rows front last fresh gone are done chains parts on =
     let raised = leaf_parts new low high page front last rows (map (λ row. row.cell) rows) refl are parts on in
     record {
       run = raised.run;
       is = raised.is;
       named_by = raised.named_by;
       top = raised.top;
-      rows = raised.rows_are ∙ put;
+      rows = raised.rows_are ∙ done;
       named = λ n. omega (arith, raised.named_are n, chains n, times-append n fresh (numbers front));
     }
 
@@ -72,7 +72,7 @@ behind_stays old new kept high depth Nothing keeps among is = tt
 behind_stays old new kept high depth (Next key rest) keeps among is = run_stays_where old new kept key high depth rest keeps among is
 
 pub inner_step : InnerStep
-inner_step old new low high depth root page at right row before child behind cells ups front last fresh gone is has at_is above less instead keeps parts on =
+inner_step old new low high depth root page at right edit before child behind cells ups front last fresh gone is has at_is above less instead keeps parts on =
     let was : Run = within before (one child) behind in
     let old_parts = (run_within.parts old low high depth before (one child) behind).0 is in
     let kept : ℕ → Type 0 = Among (pages_in before ++ behind_pages behind) in
@@ -93,8 +93,8 @@ inner_step old new low high depth root page at right row before child behind cel
       top = raised.top;
       rows = raised.rows_are ∙ run_within.rows before run behind
           ∙ ap (λ (l : List Row). rows_in before ++ (l ++ behind_rows behind)) instead.rows
-          ∙ put_within old low high depth before (one child) behind row is above less
-          ∙ ap (put_row row) (sym (run_over.rows root was));
+          ∙ edit_within old low high depth before (one child) behind edit is above less
+          ∙ ap (edited edit) (sym (run_over.rows root was));
       named = λ n. omega (
         arith,
         raised.named_are n,
@@ -109,11 +109,11 @@ inner_step old new low high depth root page at right row before child behind cel
     }
 
 pub inner_kept : InnerKept
-inner_kept old new low high depth root right row before child behind cells fresh gone is has some page_has above less instead keeps =
+inner_kept old new low high depth root right edit before child behind cells fresh gone is has some page_has above less instead keeps =
     let C : PageCells = InteriorPage cells right in
     let inside : (n : ℕ) → Among (pages_in before ++ behind_pages behind) n → Among (root ∷ (pages_in before ++ behind_pages behind)) n =
     λ n h. among-back n (root ∷ []) (pages_in before ++ behind_pages behind) h in
-    inner_step old new low high depth root root (length before) right row before child behind cells [] [] C fresh gone is has refl above less instead
+    inner_step old new low high depth root root (length before) right edit before child behind cells [] [] C fresh gone is has refl above less instead
     (record { used = keeps.used; there = λ n h. keeps.there n (inside n h); same = λ n h. keeps.same n (inside n h) })
     (ap (λ (l : List InnerCell). InteriorPage l right) (sym (take-append-drop (length before) cells)))
     (record {
@@ -125,7 +125,7 @@ inner_kept old new low high depth root right row before child behind cells fresh
 
 pub root_grows : RootGrows
 root_grows = record {
-  whole = λ new depth root page row was ups fresh gone instead has some shallow.
+  whole = λ new depth root page edit was ups fresh gone instead has some shallow.
       let P : List InnerCell → Type 0 = λ l. HasCells new root (InteriorPage l page) in
       let Q : ℕ → Type 0 = λ k. HasCells new root (InteriorPage (cells_of instead.run.front) k) in
       let long = ap (λ (l : List InnerCell). length l) instead.named_by in
@@ -134,7 +134,7 @@ root_grows = record {
             (subst S (sym long ∙ length-map instead.run.front _) some) shallow,
         run_over.rows root instead.run ∙ instead.rows,
       );
-  named = λ new depth root page n row was ups fresh gone instead is_root.
+  named = λ new depth root page n edit was ups fresh gone instead is_root.
       omega (arith, run_over.named n root instead.run, instead.named n, ap (λ k. times n (k ∷ [])) is_root, times-append n fresh (page ∷ []));
 }
 
@@ -160,6 +160,6 @@ root_kept new depth root [] last is none top shallow = (
 root_kept new depth root (p ∷ more) last is none top shallow = absurd (omega (arith, ap (λ (l : List InnerCell). length l) none))
 
 pub root_stays : RootStays
-root_stays new depth root row was fresh gone instead shallow =
+root_stays new depth root edit was fresh gone instead shallow =
     let kept = root_kept new depth root instead.run.front instead.run.last instead.is instead.named_by instead.top shallow in
     (kept.0, sym kept.1 ∙ instead.rows)

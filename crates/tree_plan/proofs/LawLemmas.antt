@@ -14,14 +14,15 @@ use Rattle.tree_model.specs.Held.{HasRow}
 use Rattle.tree_model.specs.Laws.{Keeps, Rises, chains_of}
 use Rattle.tree_model.proofs.IntLemmas.{le_is, not_le_is, by_le, antisym_ℤ}
 use Rattle.tree_model.proofs.StayLemmas.{row_stays}
-use Rattle.tree_run.specs.Laws.{AreRows, last_rowid, put_row}
+use Rattle.tree_run.specs.Edit.{put_row, chain_at, without, Puts}
+use Rattle.tree_run.specs.Laws.{AreRows, last_rowid}
 use Rattle.page_cut.specs.declared.parts.Sheet.{Sheet}
 use Rattle.page_cut.specs.declared.parts.Sheets.{Sheets}
 use Rattle.page_cut.specs.Cut.{AreLeafParts, AreInnerParts, IsPart, IsCut}
 use Rattle.tree_level.specs.Level.{up_cells, AreOnPages, with_ups}
 use Rattle.tree_level.proofs.StepLemmas.{leaf_step, inner_step}
 use Rattle.tree_plan.specs.Plan.{put_cell}
-use Rattle.tree_plan.specs.Law.{chain_at, without, RowPut, AreNumbered, AreOn, LeafPlanned, InnerPlanned}
+use Rattle.tree_plan.specs.Law.{RowPut, AreNumbered, AreOn, LeafPlanned, InnerPlanned}
 
 -- a row among rows, by cases
 
@@ -177,17 +178,17 @@ leaf_planned old new low high root page number usable row rows plan front are ab
     let C : List LeafCell → Type 0 = λ l. IsCut number usable (LeafPage l) plan.sheets in
     let cut = subst C (sym same) is.cut in
     let some : 1 ≤ length (page_cells (LeafPage (map f all))) = omega (arith, put_some row rows, length-map all f, length-map (map f all) leaf) in
-    leaf_step new low high root page row rows all front plan.sheets.last row.chain (chain_at (rowid row) rows)
+    leaf_step new low high root page (Puts row) rows all front plan.sheets.last row.chain (chain_at (rowid row) rows)
     (row_put.are old new low high row rows are has above less keeps) refl (λ n. chains_put n row rows)
     (leaf_numbered plan.sheets.front.items front plan.sheets.last (map f all) on.numbered (leaf_cut_parts number usable (map f all) plan.sheets cut))
     (on_pages new number usable page (LeafPage (map f all)) plan.sheets front some cut on)
 
 pub inner_planned : InnerPlanned
-inner_planned old new low high depth root page usable row before child behind level ups sheets front fresh gone is has at above less instead plan ups_some keeps on =
+inner_planned old new low high depth root page usable edit before child behind level ups sheets front fresh gone is has at above less instead plan ups_some keeps on =
     let cells : List InnerCell = with_ups level.at (up_cells ups) level.cells in
     let g : Sheet → InnerCell = λ s. record { child = s.number; rowid = s.key } in
     let some : 1 ≤ length (page_cells (InteriorPage cells level.right)) =
     omega (arith, length-map cells inner, length-append (take level.at level.cells) (up_cells ups ++ drop level.at level.cells), length-append (up_cells ups) (drop level.at level.cells), length-map ups g, ups_some) in
-    inner_step old new low high depth root page level.at level.right row before child behind level.cells (up_cells ups) front sheets.last fresh gone is has at above less instead keeps
+    inner_step old new low high depth root page level.at level.right edit before child behind level.cells (up_cells ups) front sheets.last fresh gone is has at above less instead keeps
     (inner_numbered sheets.front.items front sheets.last cells level.right on.numbered (inner_cut_parts level.number usable level.right cells sheets plan))
     (on_pages new level.number usable page (InteriorPage cells level.right) sheets front some plan on)

@@ -2,11 +2,12 @@
 use Rattle.std.specs.Prelude.{◌≡◌, ◌⊎◌, ℕ, suc, ◌≤◌, ℤ, ◌<ℤ◌, ◌≤ℤ◌, List, [], ◌∷◌, ◌++◌, length}
 use Rattle.page_list.specs.Pages.{Pages, Among}
 use Rattle.tree_page.specs.declared.cell.PageCells.TheVariants.{Interior as InteriorPage}
-use Rattle.tree_model.specs.Tree.{Row, Tree, rowid, root_of}
+use Rattle.tree_model.specs.Tree.{Tree, root_of}
 use Rattle.tree_model.specs.Held.{HasCells}
 use Rattle.tree_model.specs.Laws.{Keeps}
 use Rattle.tree_run.specs.Node.{Piece, last_key, pages_in}
 use Rattle.tree_run.specs.Run.{IsRun, one, over, Behind, within, bound, behind_pages}
+use Rattle.tree_run.specs.Edit.{Edit, key_of}
 use Rattle.page_cut.specs.declared.parts.Sheet.{Sheet}
 use Rattle.page_cut.specs.declared.parts.Sheets.{Sheets}
 use Rattle.tree_level.specs.Level.{numbers, up_cells, Has, Instead}
@@ -45,12 +46,12 @@ depth_above depth [] = depth
 depth_above depth (step ∷ steps) = depth_above (suc depth) steps
 
 -- what the old pages have beside the child
-pub record StepIs (old : Pages) (low high : ℤ) (depth : ℕ) (row : Row) (child : Tree) (step : Step) : Type 0 where
+pub record StepIs (old : Pages) (low high : ℤ) (depth : ℕ) (edit : Edit) (child : Tree) (step : Step) : Type 0 where
   pub is : IsRun old low high depth (within step.before (one child) step.behind)
   pub has : Has step.level.cells step.level.right (within step.before (one child) step.behind)
   pub at : step.level.at ≡ length step.before
-  pub above_low : last_key low step.before <ℤ rowid row
-  pub below_high : rowid row ≤ℤ bound high step.behind
+  pub above_low : last_key low step.before <ℤ key_of edit
+  pub below_high : key_of edit ≤ℤ bound high step.behind
 
 -- cells come up: the page is planned, and its parts are on their pages, the last on the page itself
 pub record IsPlanned (old new : Pages) (usable : ℕ) (ups : List Sheet) (step : Step) : Type 0 where
@@ -68,11 +69,11 @@ pub record IsKept (old new : Pages) (ups : List Sheet) (step : Step) : Type 0 wh
   pub beside : Keeps old new (Among (step.level.number ∷ (pages_in step.before ++ behind_pages step.behind)))
 
 -- each page of the path, from below
-abbrev pub AreSteps : Pages → Pages → ℕ → ℤ → ℤ → ℕ → Row → Tree → List Sheet → List Step → Type 0
-AreSteps old new usable low high depth row child ups [] = Unit {0}
-AreSteps old new usable low high depth row child ups (step ∷ steps) =
-    StepIs old (low_below low steps) (high_below high steps) depth row child step × (IsPlanned old new usable ups step ⊎ IsKept old new ups step)
-    × AreSteps old new usable low high (suc depth) row (above child step) step.front steps
+abbrev pub AreSteps : Pages → Pages → ℕ → ℤ → ℤ → ℕ → Edit → Tree → List Sheet → List Step → Type 0
+AreSteps old new usable low high depth edit child ups [] = Unit {0}
+AreSteps old new usable low high depth edit child ups (step ∷ steps) =
+    StepIs old (low_below low steps) (high_below high steps) depth edit child step × (IsPlanned old new usable ups step ⊎ IsKept old new ups step)
+    × AreSteps old new usable low high (suc depth) edit (above child step) step.front steps
 
 -- what comes up at the top, and the new pages on the way
 abbrev pub ups_above : List Sheet → List Step → List Sheet
@@ -85,7 +86,7 @@ taken_above fresh (step ∷ steps) = taken_above (fresh ++ numbers step.front) s
 
 -- what stands in place of the child makes what stands in place of the tree
 abbrev pub PathPlanned : Type 0
-PathPlanned = (old new : Pages) (usable : ℕ) (low high : ℤ) (depth : ℕ) (row : Row) (child : Tree) (ups : List Sheet) (steps : List Step) (fresh gone : List ℕ) →
-    Instead new (low_below low steps) (high_below high steps) depth row child (up_cells ups) (root_of child) fresh gone →
-    AreSteps old new usable low high depth row child ups steps →
-    Instead new low high (depth_above depth steps) row (tree_above child steps) (up_cells (ups_above ups steps)) (root_of (tree_above child steps)) (taken_above fresh steps) gone
+PathPlanned = (old new : Pages) (usable : ℕ) (low high : ℤ) (depth : ℕ) (edit : Edit) (child : Tree) (ups : List Sheet) (steps : List Step) (fresh gone : List ℕ) →
+    Instead new (low_below low steps) (high_below high steps) depth edit child (up_cells ups) (root_of child) fresh gone →
+    AreSteps old new usable low high depth edit child ups steps →
+    Instead new low high (depth_above depth steps) edit (tree_above child steps) (up_cells (ups_above ups steps)) (root_of (tree_above child steps)) (taken_above fresh steps) gone

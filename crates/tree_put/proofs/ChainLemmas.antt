@@ -13,10 +13,9 @@ use Rattle.tree_model.proofs.IntLemmas.{by_le}
 use Rattle.tree_model.proofs.ReplaceLemmas.{chains_append}
 use Rattle.tree_run.specs.Node.{Piece, join, rows_in}
 use Rattle.tree_run.specs.Run.{AreChildren, Run, one, within, behind_rows}
-use Rattle.tree_run.specs.Laws.{put_row}
+use Rattle.tree_run.specs.Edit.{put_row, chain_at, without, Puts}
 use Rattle.tree_run.proofs.RunLemmas.{run_within, run_over}
-use Rattle.tree_run.proofs.PutLemmas.{put_within}
-use Rattle.tree_plan.specs.Law.{chain_at, without}
+use Rattle.tree_run.proofs.EditLemmas.{edit_within}
 use Rattle.tree_plan.proofs.LawLemmas.{row_here, row_before, row_past, chains_put}
 use Rattle.tree_laws.proofs.DeepLemmas.{deep_is_large}
 use Rattle.tree_put.specs.Way.{Beside, with_child, tree_over, low_at, high_at, depth_over, IsBeside, AreBeside, Stands, AreStanding}
@@ -51,7 +50,7 @@ chain_up n old row low high depth child step beside stands =
       chains_put n row (rows_of child),
       ap C (run_over.rows step.level.number run ∙ run_within.rows step.before (one child) step.behind),
       ap (λ l. C (put_row row l)) (run_over.rows step.level.number run),
-      ap C (put_within old low high depth step.before (one child) step.behind row stands.is beside.above beside.below),
+      ap C (edit_within old low high depth step.before (one child) step.behind (Puts row) stands.is beside.above beside.below),
       chains_append n before (rows_of child ++ behind),
       chains_append n (rows_of child) behind,
       chains_append n before (put_row row (rows_of child) ++ behind),

@@ -18,6 +18,7 @@ use Rattle.tree_model.specs.Whole.{below_all, greatest, most_depth}
 use Rattle.tree_model.specs.Laws.{Keeps}
 use Rattle.tree_run.specs.Node.{Piece, cells_of, pages_in, last_key}
 use Rattle.tree_run.specs.Run.{AreChildren, Run, IsRun, one, over, within, bound, behind_pages}
+use Rattle.tree_run.specs.Edit.{Puts}
 use Rattle.tree_run.proofs.RunLemmas.{run_within, run_over, child_strict, children_stay}
 use Rattle.page_cut.specs.declared.parts.Sheet.{Sheet}
 use Rattle.page_cut.specs.declared.parts.Sheets.{Sheets}
@@ -82,7 +83,7 @@ keys_rise low (k ∷ more) above = above.1
 ups_rise : (old new : Pages) (row : Row) (low high : ℤ) (depth : ℕ) (child : Tree) (step : Beside) (front : List Sheet) (fresh gone : List ℕ)
     → IsBeside low high (rowid row) child step
     → Stands old low high depth child step → Keeps old new (Among (beside_of step))
-    → Instead new (last_key low step.before) (bound high step.behind) depth row child (up_cells front) (root_of child) fresh gone → Rises step.level front
+    → Instead new (last_key low step.before) (bound high step.behind) depth (Puts row) child (up_cells front) (root_of child) fresh gone → Rises step.level front
 ups_rise old new row low high depth child step front fresh gone beside stands keeps instead =
     let parts = (run_within.parts old low high depth step.before (one child) step.behind).0 stands.is in
     let kept : ℕ → Type 0 = Among (beside_of step) in
@@ -138,7 +139,7 @@ FewAt depth (step ∷ steps) = (suc depth ≡ most_depth → length step.level.c
 -- a page that goes up: what stands in place of it, once its parts are on their pages
 abbrev pub Plans : Pages → ℤ → ℤ → ℕ → Row → Tree → Sheets → List ℕ → List ℕ → Type 0
 Plans new low high depth row child sheets fresh gone = (front : List Sheet) (page : ℕ) → AreOn new sheets front page →
-    Instead new low high depth row child (up_cells front) page (fresh ++ numbers front) gone
+    Instead new low high depth (Puts row) child (up_cells front) page (fresh ++ numbers front) gone
 
 root_settles : (new : Pages) (usable : ℕ) (row : Row) (depth : ℕ) (child : Tree) (sheets : Sheets) (fresh gone taken : List ℕ) (out : List Sheet) → depth ≤ most_depth
     → HasParts usable (root_of child) sheets → (¬ (RootFits usable (root_of child) sheets) → suc depth ≤ most_depth)
@@ -171,14 +172,14 @@ root_settles new usable row depth child sheets fresh gone taken out shallow part
         | inr small ↦ inr (omega (arith, small, last.1.0.there.least))
       ]
     ] in
-    let grows = root_grows.whole new depth root page row child (up_cells front) (fresh ++ numbers front) gone instead last.1.0 some (deep cut.over) in
+    let grows = root_grows.whole new depth root page (Puts row) child (up_cells front) (fresh ++ numbers front) gone instead last.1.0 some (deep cut.over) in
     record {
       tree = over root instead.run;
       whole = grows.0;
       rows = grows.1;
       named = λ n. omega (
         arith,
-        root_grows.named new depth root page n row child (up_cells front) (fresh ++ numbers front) gone instead refl,
+        root_grows.named new depth root page n (Puts row) child (up_cells front) (fresh ++ numbers front) gone instead refl,
         times-append n (fresh ++ numbers front) (page ∷ []),
         times-append n fresh (numbers front),
         times-append n fresh taken,
@@ -249,10 +250,10 @@ more_taken new root row was fresh gone taken front more is rooted = record {
 -- the next page up
 next_plans : (old new : Pages) (usable : ℕ) (row : Row) (low high : ℤ) (depth : ℕ) (child : Tree) (step : Beside) (front : List Sheet) (next : Sheets) (fresh gone : List ℕ)
     → IsBeside low high (rowid row) child step → Stands old low high depth child step → Keeps old new (Among (beside_of step)) → 1 ≤ length front
-    → Instead new (last_key low step.before) (bound high step.behind) depth row child (up_cells front) (root_of child) fresh gone → IsInnerPlan usable step.level front next
+    → Instead new (last_key low step.before) (bound high step.behind) depth (Puts row) child (up_cells front) (root_of child) fresh gone → IsInnerPlan usable step.level front next
     → Plans new low high (suc depth) row (with_child child step) next fresh gone
 next_plans old new usable row low high depth child step front next fresh gone beside stands keeps some instead plan front' page on =
-    inner_planned old new low high depth step.level.number page usable row step.before child step.behind step.level front next front' fresh gone
+    inner_planned old new low high depth step.level.number page usable (Puts row) step.before child step.behind step.level front next front' fresh gone
     stands.is beside.has beside.at beside.above beside.below instead plan some keeps on
 
 -- the whole climb
@@ -279,7 +280,7 @@ climb old new usable row least depth child (step ∷ steps) sheets fresh gone ta
     let taken_is : (n : ℕ) → times n taken ≡ times n (numbers front) + times n more = λ n. omega (arith, ap (times n) settles.taken_are, times-append n (numbers front) more) in
     elim how [
       | inl kept ↦
-          let I : List Sheet → Type 0 = λ l. Instead new (last_key low step.before) (bound high step.behind) depth row child (up_cells l) (root_of child)
+          let I : List Sheet → Type 0 = λ l. Instead new (last_key low step.before) (bound high step.behind) depth (Puts row) child (up_cells l) (root_of child)
           (fresh ++ numbers l) gone in
           let R : List Sheet → Type 0 = λ l. Rooted new (root_of (tree_over child (step ∷ steps))) row (tree_over child (step ∷ steps)) ((fresh ++ numbers l) ++ more) gone in
           let M : List ℕ → Type 0 = λ l. Rooted new (root_of (tree_over child (step ∷ steps))) row (tree_over child (step ∷ steps)) ((fresh ++ []) ++ l) gone in
@@ -343,7 +344,7 @@ climb old new usable row least depth child (step ∷ steps) sheets fresh gone ta
     deep_is depth (s ∷ more) top shallow full = absurd (omega (arith, ap (λ (l : List Beside). length l) top))
 
     padded_instead : (new : Pages) (low high : ℤ) (depth : ℕ) (row : Row) (child : Tree) (ups : List InnerCell) (page : ℕ) (fresh gone : List ℕ)
-        → Instead new low high depth row child ups page fresh gone → Instead new low high depth row child ups page (fresh ++ []) gone
+        → Instead new low high depth (Puts row) child ups page fresh gone → Instead new low high depth (Puts row) child ups page (fresh ++ []) gone
     padded_instead new low high depth row child ups page fresh gone instead = record {
       run = instead.run;
       is = instead.is;

@@ -23,7 +23,7 @@ use Rattle.tree_model.specs.declared.ends.PathEnd.TheVariants.{HasPayload}
 use Rattle.tree_model.proofs.OthersLemmas.{split_named}
 use Rattle.tree_model.proofs.WholeLemmas.{flat_append}
 use Rattle.tree_plan.specs.Plan.{cell_of, IsLeafPlan}
-use Rattle.tree_plan.specs.Law.{chain_at}
+use Rattle.tree_run.specs.Edit.{chain_at}
 use Rattle.tree_plan.specs.Climb.{AreClimbed}
 use Rattle.tree_laws.specs.Whole.{missing_in}
 use Rattle.tree_laws.proofs.CountLemmas.{tally, tally_all, pages_add_up}

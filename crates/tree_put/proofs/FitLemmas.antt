@@ -18,7 +18,7 @@ use Rattle.tree_model.specs.declared.level.Level.{Level}
 use Rattle.tree_model.proofs.IntLemmas.{lt_trans_ℤ}
 use Rattle.tree_model.proofs.OthersLemmas.{split_named}
 use Rattle.tree_run.specs.Run.{one, within}
-use Rattle.tree_run.specs.Laws.{put_row}
+use Rattle.tree_run.specs.Edit.{put_row}
 use Rattle.tree_run.proofs.RunLemmas.{run_over}
 use Rattle.tree_run.proofs.PutLemmas.{put_finds}
 use Rattle.page_cut.specs.declared.parts.Sheet.{Sheet}

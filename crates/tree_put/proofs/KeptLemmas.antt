@@ -14,7 +14,7 @@ use Rattle.tree_model.specs.Laws.{Keeps}
 use Rattle.tree_model.proofs.StayLemmas.{cells_stay}
 use Rattle.tree_run.specs.Node.{Piece, cell_of, cells_of, pages_in, last_key}
 use Rattle.tree_run.specs.Run.{Run, one, over, Behind, Nothing, Next, within, bound}
-use Rattle.tree_run.specs.Laws.{put_row}
+use Rattle.tree_run.specs.Edit.{put_row, Puts}
 use Rattle.tree_run.proofs.RunLemmas.{run_over}
 use Rattle.tree_run.proofs.RootLemmas.{root_over}
 use Rattle.tree_level.specs.Level.{Instead}
@@ -35,9 +35,9 @@ no_pieces (p ∷ more) none = absurd (omega (arith, ap (λ (l : List InnerCell).
 
 -- the root keeps its page
 pub root_kept : (new : Pages) (row : Row) (depth : ℕ) (child : Tree) (fresh gone : List ℕ) → depth ≤ most_depth
-    → Instead new below_all greatest depth row child [] (root_of child) fresh gone → Rooted new (root_of child) row child fresh gone
+    → Instead new below_all greatest depth (Puts row) child [] (root_of child) fresh gone → Rooted new (root_of child) row child fresh gone
 root_kept new row depth child fresh gone shallow instead =
-    let stays = root_stays new depth (root_of child) row child fresh gone instead shallow in
+    let stays = root_stays new depth (root_of child) (Puts row) child fresh gone instead shallow in
     let run : Run = instead.run in
     let none : pages_in run.front ≡ [] = ap pages_in (no_pieces run.front instead.named_by) in
     record {
@@ -52,10 +52,10 @@ bare_root : (old new : Pages) (row : Row) (depth : ℕ) (child : Tree) (before :
     → step.before ≡ before → step.behind ≡ behind → length (within before (one child) behind).front < 1 → length step.level.cells < 1 → step.level.number ≡ 1
     → root_of (within before (one child) behind).last ≡ step.level.right → suc depth ≤ most_depth
     → HasCells new step.level.number (InteriorPage step.level.cells step.level.right)
-    → Instead new (last_key below_all step.before) (bound greatest step.behind) depth row child [] (root_of child) fresh gone
+    → Instead new (last_key below_all step.before) (bound greatest step.behind) depth (Puts row) child [] (root_of child) fresh gone
     → Rooted new step.level.number row (over step.level.number (within step.before (one child) step.behind)) fresh gone
 bare_root old new row depth child [] Nothing step fresh gone b h short none first right shallow has instead =
-    let I : List Piece → Behind → Type 0 = λ xs ys. Instead new (last_key below_all xs) (bound greatest ys) depth row child [] (root_of child) fresh gone in
+    let I : List Piece → Behind → Type 0 = λ xs ys. Instead new (last_key below_all xs) (bound greatest ys) depth (Puts row) child [] (root_of child) fresh gone in
     let R : List Piece → Behind → Type 0 = λ xs ys. Rooted new step.level.number row (over step.level.number (within xs (one child) ys)) fresh gone in
     let there : I [] Nothing = subst (λ xs. I xs Nothing) b (subst (λ ys. I step.before ys) h instead) in
     let run : Run = there.run in
@@ -81,13 +81,13 @@ bare_root old new row depth child (p ∷ before) behind step fresh gone b h shor
 -- one page up
 kept_above : (old new : Pages) (row : Row) (low high : ℤ) (depth : ℕ) (child : Tree) (step : Beside) (fresh gone : List ℕ) → IsBeside low high (rowid row) child step
     → Stands old low high depth child step → 1 ≤ length step.level.cells → Keeps old new (Among (step.level.number ∷ beside_of step))
-    → Instead new (last_key low step.before) (bound high step.behind) depth row child [] (root_of child) fresh gone
-    → Instead new low high (suc depth) row (with_child child step) [] (root_of (with_child child step)) (fresh ++ []) gone
+    → Instead new (last_key low step.before) (bound high step.behind) depth (Puts row) child [] (root_of child) fresh gone
+    → Instead new low high (suc depth) (Puts row) (with_child child step) [] (root_of (with_child child step)) (fresh ++ []) gone
 kept_above old new row low high depth child step fresh gone beside stands some keeps instead =
     let run : Run = within step.before (one child) step.behind in
-    let P : ℕ → Type 0 = λ page. Instead new low high (suc depth) row (with_child child step) [] page (fresh ++ []) gone in
+    let P : ℕ → Type 0 = λ page. Instead new low high (suc depth) (Puts row) (with_child child step) [] page (fresh ++ []) gone in
     subst P (sym (run_over.rooted step.level.number run))
-    (inner_kept old new low high depth step.level.number step.level.right row step.before child step.behind step.level.cells fresh gone
+    (inner_kept old new low high depth step.level.number step.level.right (Puts row) step.before child step.behind step.level.cells fresh gone
     stands.is beside.has some stands.page beside.above beside.below instead keeps)
 
 unpadded : (new : Pages) (root : ℕ) (row : Row) (was : Tree) (fresh gone : List ℕ) → Rooted new root row was (fresh ++ []) gone → Rooted new root row was fresh gone
@@ -103,7 +103,7 @@ keeps_less old new P Q less keeps = record { used = keeps.used; there = λ n q. 
 
 pub stay_up : (old new : Pages) (row : Row) (depth : ℕ) (child : Tree) (steps : List Beside) (fresh gone : List ℕ) → AreBeside below_all greatest (rowid row) child steps
     → AreStanding old below_all greatest depth child steps → depth_over depth steps ≤ most_depth → Keeps old new (Among (around steps))
-    → Instead new (low_at below_all steps) (high_at greatest steps) depth row child [] (root_of child) fresh gone
+    → Instead new (low_at below_all steps) (high_at greatest steps) depth (Puts row) child [] (root_of child) fresh gone
     → Rooted new (root_of (tree_over child steps)) row (tree_over child steps) fresh gone
 stay_up old new row depth child [] fresh gone beside standing shallow keeps instead = root_kept new row depth child fresh gone shallow instead
 stay_up old new row depth child (step ∷ s ∷ more) fresh gone beside standing shallow keeps instead =

@@ -25,7 +25,7 @@ use Rattle.tree_model.specs.declared.level.Level.{Level}
 use Rattle.tree_model.proofs.IntLemmas.{le_is, not_le_is, by_le}
 use Rattle.tree_run.specs.Node.{Piece, cell_of, rows_in}
 use Rattle.tree_run.specs.Run.{AreChildren, Run, IsRun, run_rows, one, Behind, Nothing, Next, within, IsBehind, behind_rows}
-use Rattle.tree_run.specs.Laws.{put_row}
+use Rattle.tree_run.specs.Edit.{put_row}
 use Rattle.tree_run.proofs.RunLemmas.{run_within, run_over}
 use Rattle.page_cut.specs.declared.parts.Sheet.{Sheet}
 use Rattle.page_cut.specs.declared.parts.Sheets.{Sheets}

@@ -17,7 +17,7 @@ use Rattle.page_cut.specs.declared.parts.Sheets.{Sheets}
 use Rattle.page_cut.specs.Cut.{IsCut}
 use Rattle.tree_level.specs.Level.{numbers}
 use Rattle.tree_plan.specs.Plan.{put_cell, IsLeafPlan}
-use Rattle.tree_plan.specs.Law.{chain_at, without}
+use Rattle.tree_run.specs.Edit.{chain_at, without}
 use Rattle.tree_plan.specs.Climb.{AreClimbed}
 use Rattle.tree_plan.proofs.LawLemmas.{leaf_planned}
 use Rattle.tree_laws.proofs.DeepLemmas.{whole_one}

@@ -12,11 +12,10 @@ use Rattle.tree_model.specs.declared.ends.PathEnd.TheVariants.{HasPayload, NoRow
 use Rattle.tree_model.proofs.IntLemmas.{le_is, not_le_is, by_le}
 use Rattle.tree_run.specs.Node.{rows_in}
 use Rattle.tree_run.specs.Run.{one, within, behind_rows}
-use Rattle.tree_run.specs.Laws.{put_row}
+use Rattle.tree_run.specs.Edit.{put_row, chain_at, Puts}
 use Rattle.tree_run.proofs.RunLemmas.{run_within, run_over}
-use Rattle.tree_run.proofs.PutLemmas.{put_within}
+use Rattle.tree_run.proofs.EditLemmas.{edit_within}
 use Rattle.tree_plan.specs.Plan.{cell_of}
-use Rattle.tree_plan.specs.Law.{chain_at}
 use Rattle.tree_plan.proofs.LawLemmas.{row_here, row_before, row_past}
 use Rattle.tree_put.specs.Way.{Beside, with_child, tree_over, low_at, high_at, IsBeside, AreBeside, Stands, AreStanding}
 use Rattle.tree_put.specs.Keeps.{put_shown}
@@ -75,7 +74,7 @@ has_up old row low high depth child step beside stands =
       length_put row (rows_of child),
       ap C (run_over.rows step.level.number (within step.before (one child) step.behind) ∙ run_within.rows step.before (one child) step.behind),
       ap (λ l. C (put_row row l)) (run_over.rows step.level.number (within step.before (one child) step.behind)),
-      ap C (put_within old low high depth step.before (one child) step.behind row stands.is beside.above beside.below),
+      ap C (edit_within old low high depth step.before (one child) step.behind (Puts row) stands.is beside.above beside.below),
       length-append before (rows_of child ++ behind),
       length-append (rows_of child) behind,
       length-append before (put_row row (rows_of child) ++ behind),

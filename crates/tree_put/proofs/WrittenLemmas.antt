@@ -28,7 +28,7 @@ use Rattle.page_cut.specs.declared.parts.Sheet.{Sheet}
 use Rattle.tree_level.specs.Level.{numbers}
 use Rattle.tree_plan.specs.declared.leaf.LeafPlan.{LeafPlan}
 use Rattle.tree_plan.specs.Plan.{cell_of}
-use Rattle.tree_plan.specs.Law.{chain_at}
+use Rattle.tree_run.specs.Edit.{chain_at}
 use Rattle.tree_plan.specs.Climb.{AreClimbed}
 use Rattle.tree_laws.proofs.DeepLemmas.{whole_one}
 use Rattle.tree_laws.proofs.RangeLemmas.{named_there}

@@ -10,12 +10,11 @@ use Rattle.tree_model.specs.Held.{HasCells, HasRow}
 use Rattle.tree_model.specs.Whole.{below_all, greatest, IsWholeTree, IsWholeFor}
 use Rattle.tree_model.specs.Laws.{Keeps}
 use Rattle.tree_model.specs.declared.level.Level.{Level}
-use Rattle.tree_run.specs.Laws.{put_row}
+use Rattle.tree_run.specs.Edit.{put_row, chain_at}
 use Rattle.page_cut.specs.declared.parts.Sheet.{Sheet}
 use Rattle.tree_level.specs.Level.{numbers}
 use Rattle.tree_plan.specs.declared.leaf.LeafPlan.{LeafPlan}
 use Rattle.tree_plan.specs.Plan.{IsLeafPlan}
-use Rattle.tree_plan.specs.Law.{chain_at}
 use Rattle.tree_plan.specs.Climb.{AreClimbed}
 use Rattle.tree_put.specs.Way.{IsWay}
 

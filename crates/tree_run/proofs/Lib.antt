@@ -1,4 +1,5 @@
 pub mod RunLemmas
 pub mod LeafLemmas
 pub mod PutLemmas
+pub mod EditLemmas
 pub mod RootLemmas

@@ -1,13 +1,12 @@
 -- What follows for runs of trees.
-use Rattle.std.specs.Prelude.{◌≡◌, ◌≢◌, ◌⊎◌, ◌↔◌, ℕ, suc, ◌+◌, ◌≤◌, ℤ, ◌<ℤ◌, ◌≤ℤ◌, int_le, if◌then◌else◌, List, [], ◌∷◌, ◌++◌, length, map}
+use Rattle.std.specs.Prelude.{◌≡◌, ◌⊎◌, ◌↔◌, ℕ, suc, ◌+◌, ◌≤◌, ℤ, ◌<ℤ◌, ◌≤ℤ◌, List, [], ◌∷◌, ◌++◌, length, map}
 use Rattle.std.specs.List.{AllByRecursion}
 use Rattle.page_list.specs.Pages.{Pages, times, Among}
 use Rattle.tree_page.specs.declared.cell.PageCells.TheVariants.{Leaf as LeafPage, Interior as InteriorPage}
 use Rattle.tree_model.specs.Tree.{Row, Tree, Leaf, rowid, root_of, rows_of, pages_of, HasDepth}
 use Rattle.tree_model.specs.Held.{HasCells, HasRow}
 use Rattle.tree_model.specs.Whole.{below_all, greatest, most_depth, IsWholeTree}
-use Rattle.tree_model.specs.Laws.{Keeps, Rises, row_at}
-use Rattle.tree_model.specs.declared.ends.PathEnd.TheVariants.{HasPayload}
+use Rattle.tree_model.specs.Laws.{Keeps, Rises}
 use Rattle.tree_run.specs.Node.{Piece, cells_of, rows_in, pages_in, last_key}
 use Rattle.tree_run.specs.Run.{IsChild, AreChildren, Run, IsRun, run_rows, run_pages, over, Behind, within, bound, IsBehind, behind_rows, behind_pages}
 
@@ -60,24 +59,6 @@ pub record LeafOver : Type 0 where
   pub down : (pages : Pages) (low high : ℤ) (page : ℕ) (rows : List Row) → low ≤ℤ high → IsChild pages low high 1 (Leaf page rows) → AreRows pages low high rows
   pub cut : (pages : Pages) (low high : ℤ) (rows more : List Row) → AreRows pages low high (rows ++ more) →
       AreRows pages low (last_rowid low rows) rows × AreRows pages (last_rowid low rows) high more
-
--- the rows with one put in: in place of the one of its rowid, or between its neighbours
-abbrev pub put_row : Row → List Row → List Row
-put_row row [] = row ∷ []
-put_row row (r ∷ more) =
-    if int_le (rowid row) (rowid r) then (if int_le (rowid r) (rowid row) then row ∷ more else row ∷ r ∷ more) else r ∷ put_row row more
-
--- then it is the row of its rowid, each other rowid has the row that it had, and the rows still rise
-pub record PutFinds : Type 0 where
-  pub here : (row : Row) (rows : List Row) → row_at (rowid row) (put_row row rows) ≡ HasPayload row.payload
-  pub beside : (key : ℤ) (row : Row) (rows : List Row) → key ≢ rowid row → row_at key (put_row row rows) ≡ row_at key rows
-  pub rises : (low : ℤ) (row : Row) (rows : List Row) → low <ℤ rowid row → Rises low rows → Rises low (put_row row rows)
-
--- a row put into a run within a longer one is put into that
-abbrev pub PutWithin : Type 0
-PutWithin = (pages : Pages) (low high : ℤ) (depth : ℕ) (before : List Piece) (run : Run) (behind : Behind) (row : Row) →
-    IsRun pages low high depth (within before run behind) → last_key low before <ℤ rowid row → rowid row ≤ℤ bound high behind →
-    rows_in before ++ (put_row row (run_rows run) ++ behind_rows behind) ≡ put_row row (run_rows (within before run behind))
 
 -- a run is a whole tree where its root stands over it: that is how a root grows. Only page 1 may stand over a run of
 -- one tree

@@ -1,3 +1,4 @@
 pub mod Node
 pub mod Run
+pub mod Edit
 pub mod Laws

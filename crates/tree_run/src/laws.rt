@@ -1,6 +1,7 @@
 //! What follows from the definitions alone.
 
-ghost use Rattle.tree_run.specs.Laws.{Strict, RunWithin, RunStays, RunOver, LeafOver, PutFinds, PutWithin, RootOver, RootUnder};
+ghost use Rattle.tree_run.specs.Edit.{PutFinds, EditWithin};
+ghost use Rattle.tree_run.specs.Laws.{Strict, RunWithin, RunStays, RunOver, LeafOver, RootOver, RootUnder};
 
 /// A child has a row, so its bounds are apart.
 pub fn strict()
@@ -32,9 +33,9 @@ pub fn put_finds()
     ensures { PutFinds }
 {}
 
-/// A row put into a run within a longer one is put into that.
-pub fn put_within()
-    ensures { PutWithin }
+/// What is done to a run within a longer one is done to that.
+pub fn edit_within()
+    ensures { EditWithin }
 {}
 
 /// A run becomes a whole tree where its root stands over it.

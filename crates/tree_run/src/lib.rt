@@ -4,6 +4,6 @@
 mod laws;
 
 pub use laws::{
-    leaf_over, put_finds, put_within, root_over, root_under, run_over, run_stays, run_within,
+    edit_within, leaf_over, put_finds, root_over, root_under, run_over, run_stays, run_within,
     strict,
 };

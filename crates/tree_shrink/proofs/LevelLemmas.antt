@@ -11,15 +11,26 @@ use Rattle.tree_model.specs.Laws.{Keeps, chains_of}
 use Rattle.tree_model.proofs.StayLemmas.{cells_stay, rows_stay}
 use Rattle.tree_run.specs.Node.{Piece, cell_of, cells_of, rows_in, pages_in}
 use Rattle.tree_run.specs.Run.{Run, IsRun, run_rows, run_pages, one, over, Behind, Nothing, Next, within, behind_rows, behind_pages}
+use Rattle.tree_run.specs.Edit.{chain_at, without, Removes}
 use Rattle.tree_run.specs.Laws.{AreRows}
 use Rattle.tree_run.proofs.RunLemmas.{run_within, run_over, run_stays_where}
 use Rattle.tree_run.proofs.LeafLemmas.{leaf_over}
+use Rattle.tree_run.proofs.EditLemmas.{edit_within}
 use Rattle.tree_level.proofs.StepLemmas.{cells_within, right_within}
-use Rattle.tree_plan.specs.Law.{chain_at, without}
 use Rattle.tree_shrink.specs.Rest.{Trees, left_of, cells_left, rest_over}
-use Rattle.tree_shrink.specs.Level.{Less, LeafLess, InnerStays, lost_page, HasLeft, InnerLoses}
-use Rattle.tree_shrink.proofs.RowLemmas.{row_taken_out, taken_out_within}
+use Rattle.tree_shrink.specs.Level.{Less, LessInstead, LeafLess, InnerStays, lost_page, HasLeft, InnerLoses}
+use Rattle.tree_shrink.proofs.RowLemmas.{row_taken_out}
 use Rattle.tree_shrink.proofs.RunLemmas.{run_replaced, child_left_out}
+
+pub less_instead : LessInstead
+less_instead new low high depth key was tree gone less same = record {
+  run = one tree;
+  is = less.is;
+  named_by = refl;
+  top = same;
+  rows = less.rows;
+  named = λ n. omega (arith, less.named n);
+}
 
 pub leaf_less : LeafLess
 leaf_less = record {
@@ -75,7 +86,7 @@ inner_stays old new low high depth page right key before child child' behind cel
       };
       rows = run_over.rows page mid ∙ run_within.rows before (one child') behind
           ∙ ap (λ (l : List Row). rows_in before ++ (l ++ behind_rows behind)) less.rows
-          ∙ taken_out_within old low high depth before (one child) behind key is above below
+          ∙ edit_within old low high depth before (one child) behind (Removes key) is above below
           ∙ ap (without key) (sym (run_over.rows page was));
       named = λ n. omega (
         arith,
@@ -162,7 +173,7 @@ inner_loses old new low high depth page right at key before child behind cells g
       has = (child_left_out.cells before child behind cells right at has at_is).1;
       rows = others_rows before behind
           ∙ ap (λ (l : List Row). rows_in before ++ (l ++ behind_rows behind)) less.rows
-          ∙ taken_out_within old low high depth before (one child) behind key is above below;
+          ∙ edit_within old low high depth before (one child) behind (Removes key) is above below;
       named = λ n. omega (arith, others_named n before behind, run_within.named n before (one child) behind, less.named n);
     })
     left_has

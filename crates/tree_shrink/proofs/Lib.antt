@@ -1,3 +1,5 @@
 pub mod RowLemmas
 pub mod RunLemmas
 pub mod LevelLemmas
+pub mod JoinLemmas
+pub mod RootLemmas

@@ -132,12 +132,17 @@ right_goes at right cell more is =
     let test : nat_lt at (length (cell ∷ more)) ≡ false = le-ltb at (length (cell ∷ more)) (omega (arith, is)) in
     ap (λ b. if b then some else last) test
 
+pub seam : (xs ys : List InnerCell) (cell : InnerCell) (at : ℕ) → at ≡ length xs → (take at (xs ++ cell ∷ ys) ≡ xs) × (drop (suc at) (xs ++ cell ∷ ys) ≡ ys)
+seam xs ys cell at is =
+    let all : List InnerCell = xs ++ cell ∷ ys in (
+      ap (λ k. take k all) is ∙ take-append_seam xs (cell ∷ ys),
+      ap (λ k. drop k all) (let e : suc at ≡ length xs + 1 = omega arith in e) ∙ drop-append-add xs (cell ∷ ys) 1,
+    )
+
 between : (xs ys : List InnerCell) (cell : InnerCell) (at right : ℕ) → at ≡ length xs → cells_left at (xs ++ cell ∷ ys) right ≡ Some (xs ++ ys, right)
 between xs ys cell at right is =
-    let all : List InnerCell = xs ++ cell ∷ ys in
-    let front : take at all ≡ xs = ap (λ k. take k all) is ∙ take-append_seam xs (cell ∷ ys) in
-    let back : drop (suc at) all ≡ ys = ap (λ k. drop k all) (let e : suc at ≡ length xs + 1 = omega arith in e) ∙ drop-append-add xs (cell ∷ ys) 1 in
-    cell_goes at right all (omega (arith, is, length-append xs (cell ∷ ys))) ∙ ap₂ (λ (a b : List InnerCell). Some (a ++ b, right)) front back
+    let cut = seam xs ys cell at is in
+    cell_goes at right (xs ++ cell ∷ ys) (omega (arith, is, length-append xs (cell ∷ ys))) ∙ ap₂ (λ (a b : List InnerCell). Some (a ++ b, right)) cut.0 cut.1
 
 last_cells : (p : Piece) (more : List Piece) → (take (length (cells_of more)) (cells_of (p ∷ more)) ≡ cells_of (without_last p more).front)
     × ((slice_index_or (cells_of (p ∷ more)) (length (cells_of more)) no_cell).child ≡ root_of (without_last p more).last)

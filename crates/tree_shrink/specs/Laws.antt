@@ -1,5 +1,5 @@
 -- What follows where trees within an interior page become fewer.
-use Rattle.std.specs.Prelude.{◌≡◌, ◌≢◌, ℕ, ◌+◌, ℤ, ◌<ℤ◌, ◌≤ℤ◌, List, [], ◌++◌, length, Some, None, IfSome}
+use Rattle.std.specs.Prelude.{◌≡◌, ◌≢◌, ℕ, ◌+◌, ℤ, ◌≤ℤ◌, List, [], ◌++◌, length, Some, None, IfSome}
 use Rattle.page_list.specs.Pages.{Pages, times, Among}
 use Rattle.tree_page.specs.declared.cell.InnerCell.{InnerCell}
 use Rattle.tree_model.specs.Tree.{Row, Tree, root_of}
@@ -7,9 +7,9 @@ use Rattle.tree_model.specs.Laws.{Keeps, Rises, row_at, chains_of}
 use Rattle.tree_model.specs.declared.ends.PathEnd.TheVariants.{NoRow}
 use Rattle.tree_run.specs.Node.{Piece, cells_of, rows_in, pages_in, last_key}
 use Rattle.tree_run.specs.Run.{Run, IsRun, run_rows, run_pages, one, Behind, Next, within, bound, behind_rows, behind_pages}
+use Rattle.tree_run.specs.Edit.{chain_at, without}
 use Rattle.tree_run.specs.Laws.{AreRows}
 use Rattle.tree_level.specs.Level.{Has}
-use Rattle.tree_plan.specs.Law.{chain_at, without}
 use Rattle.tree_shrink.specs.Rest.{left_of, cells_left}
 
 -- a run stands within wider bounds too
@@ -47,9 +47,3 @@ pub record RowTakenOut : Type 0 where
   pub rises : (low key : ℤ) (rows : List Row) → Rises low rows → Rises low (without key rows)
   pub are : (pages : Pages) (low high key : ℤ) (rows : List Row) → AreRows pages low high rows → low ≤ℤ high → AreRows pages low high (without key rows)
   pub chains : (n : ℕ) (key : ℤ) (rows : List Row) → times n (chains_of (without key rows)) + times n (chain_at key rows) ≡ times n (chains_of rows)
-
--- a row taken out of a run within a longer one is taken out of that
-abbrev pub TakenOutWithin : Type 0
-TakenOutWithin = (pages : Pages) (low high : ℤ) (depth : ℕ) (before : List Piece) (run : Run) (behind : Behind) (key : ℤ) →
-    IsRun pages low high depth (within before run behind) → last_key low before <ℤ key → key ≤ℤ bound high behind →
-    rows_in before ++ (without key (run_rows run) ++ behind_rows behind) ≡ without key (run_rows (within before run behind))

@@ -1,4 +1,4 @@
--- What comes of a page when a row is taken out below it, level by level, as far as no two pages become one.
+-- What comes of a page when a row is taken out below it, level by level. `Join` has what comes of it where two pages below become one.
 use Rattle.std.specs.Prelude.{◌≡◌, ℕ, suc, ◌+◌, ◌≤◌, ℤ, ◌<ℤ◌, ◌≤ℤ◌, List, [], ◌∷◌, ◌++◌, length, map, Option, Some, None}
 use Rattle.page_list.specs.Pages.{Pages, times, Among}
 use Rattle.tree_page.specs.declared.cell.InnerCell.{InnerCell}
@@ -8,9 +8,9 @@ use Rattle.tree_model.specs.Held.{HasCells}
 use Rattle.tree_model.specs.Laws.{Keeps, chains_of}
 use Rattle.tree_run.specs.Node.{Piece, last_key, pages_in}
 use Rattle.tree_run.specs.Run.{IsRun, one, over, Behind, within, bound, behind_pages}
+use Rattle.tree_run.specs.Edit.{chain_at, without, Removes}
 use Rattle.tree_run.specs.Laws.{AreRows}
-use Rattle.tree_level.specs.Level.{Has}
-use Rattle.tree_plan.specs.Law.{chain_at, without}
+use Rattle.tree_level.specs.Level.{Has, Instead}
 use Rattle.tree_shrink.specs.Rest.{Rest, Trees, Below, Gone, IsRest, rest_rows, rest_pages, left_of, cells_left, rest_over}
 
 -- What stands in place of a tree within bounds after a row was taken out below it: its rows are those without that one, and those
@@ -19,6 +19,11 @@ pub record Less (new : Pages) (low high : ℤ) (depth : ℕ) (key : ℤ) (was : 
   pub is : IsRest new low high depth rest
   pub rows : rest_rows rest ≡ without key (rows_of was)
   pub named : (n : ℕ) → times n (rest_pages rest) + times n gone ≡ times n (pages_of was)
+
+-- where a tree still stands on the page, it stands in place of the old one, and the parent has no more to name than before
+abbrev pub LessInstead : Type 0
+LessInstead = (new : Pages) (low high : ℤ) (depth : ℕ) (key : ℤ) (was tree : Tree) (gone : List ℕ) → Less new low high depth key was (Trees (one tree)) gone →
+    root_of tree ≡ root_of was → Instead new low high depth (Removes key) was [] (root_of was) [] gone
 
 -- a leaf: with its other rows on its page; or, where it has no other, it is gone
 pub record LeafLess : Type 0 where

@@ -1,3 +1,5 @@
 pub mod Rest
 pub mod Laws
 pub mod Level
+pub mod Join
+pub mod Root

@@ -1,7 +1,9 @@
 //! Laws of runs that become shorter.
 
-ghost use Rattle.tree_shrink.specs.Level.{LeafLess, InnerStays, InnerLoses};
-ghost use Rattle.tree_shrink.specs.Laws.{RunWidens, RunReplaced, ChildLeftOut, Joined, RowTakenOut, TakenOutWithin};
+ghost use Rattle.tree_shrink.specs.Join.{InnerJoins};
+ghost use Rattle.tree_shrink.specs.Level.{LessInstead, LeafLess, InnerStays, InnerLoses};
+ghost use Rattle.tree_shrink.specs.Laws.{RunWidens, RunReplaced, ChildLeftOut, Joined, RowTakenOut};
+ghost use Rattle.tree_shrink.specs.Root.{LessRootLeft, NoSibling, RootTakes, RootOverOne, RootEmpty, RootLeafLess};
 
 /// A run stands within wider bounds too.
 pub fn run_widens()
@@ -28,11 +30,6 @@ pub fn row_taken_out()
     ensures { RowTakenOut }
 {}
 
-/// A row taken out of a run within a longer one is taken out of that.
-pub fn taken_out_within()
-    ensures { TakenOutWithin }
-{}
-
 /// What comes of a leaf.
 pub fn leaf_less()
     ensures { LeafLess }
@@ -46,4 +43,44 @@ pub fn inner_stays()
 /// An interior page whose child is gone.
 pub fn inner_loses()
     ensures { InnerLoses }
+{}
+
+/// What is left on its page stands in place of it.
+pub fn less_instead()
+    ensures { LessInstead }
+{}
+
+/// An interior page over two pages whose children become one list.
+pub fn inner_joins()
+    ensures { InnerJoins }
+{}
+
+/// A root that has one child left.
+pub fn less_root_left()
+    ensures { LessRootLeft }
+{}
+
+/// A root without a cell over a page that has one child left.
+pub fn no_sibling()
+    ensures { NoSibling }
+{}
+
+/// A root takes what its child has.
+pub fn root_takes()
+    ensures { RootTakes }
+{}
+
+/// Page 1 stands over one child.
+pub fn root_over_one()
+    ensures { RootOverOne }
+{}
+
+/// A root below which nothing is left.
+pub fn root_empty()
+    ensures { RootEmpty }
+{}
+
+/// A root that is a leaf.
+pub fn root_leaf_less()
+    ensures { RootLeafLess }
 {}

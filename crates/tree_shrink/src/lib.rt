@@ -7,6 +7,7 @@
 mod laws;
 
 pub use laws::{
-    child_left_out, inner_loses, inner_stays, joined, leaf_less, row_taken_out, run_replaced,
-    run_widens, taken_out_within,
+    child_left_out, inner_joins, inner_loses, inner_stays, joined, leaf_less, less_instead,
+    less_root_left, no_sibling, root_empty, root_leaf_less, root_over_one, root_takes,
+    row_taken_out, run_replaced, run_widens,
 };

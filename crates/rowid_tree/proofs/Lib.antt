@@ -3,6 +3,7 @@ mod CellLemmas
 mod PutLemmas
 mod RootLemmas
 mod WholeLemmas
+mod RemoveLemmas
 mod AddLemmas
 mod LargeLemmas
 mod CleanLemmas

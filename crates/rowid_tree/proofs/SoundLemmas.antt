@@ -31,7 +31,7 @@ use Rattle.page_cut.specs.declared.parts.Sheet.{Sheet}
 use Rattle.tree_level.specs.Level.{numbers}
 use Rattle.tree_plan.specs.declared.leaf.LeafPlan.{LeafPlan}
 use Rattle.tree_plan.specs.Plan.{IsLeafPlan, cell_of}
-use Rattle.tree_plan.specs.Law.{chain_at}
+use Rattle.tree_run.specs.Edit.{chain_at}
 use Rattle.tree_plan.specs.Climb.{AreClimbed}
 use Rattle.tree_write.specs.Climb.{Climbed}
 use Rattle.tree_laws.proofs.DeepLemmas.{whole_one}
@@ -49,7 +49,8 @@ use Rattle.tree_search.specs.Search.{Descends, SearchRefused, IsNoDamage}
 use Rattle.tree_search.proofs.RowLemmas.{row_clean}
 use Rattle.rowid_tree.specs.Steps.{rest_part, chained_len, FreeingRefused}
 use Rattle.rowid_tree.specs.Puts.{WroteCell, PlacedCell, StopsAtCell, StopsAtLeaf, PutRefused, IsSoundlyRefused}
-use Rattle.rowid_tree.proofs.WholeLemmas.{chained, each_written}
+use Rattle.tree_removed.proofs.StepLemmas.{each_written}
+use Rattle.rowid_tree.proofs.WholeLemmas.{chained}
 use Rattle.rowid_tree.proofs.CleanLemmas.{taking_clean, all_taken_good, put_clean, write_clean, IsLoose, free_clean}
 
 -- want of memory names no page

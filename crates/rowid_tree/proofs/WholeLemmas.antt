@@ -1,23 +1,19 @@
 -- A put that was done over a space that tells is one of its pages alone.
-use Rattle.std.proofs.Common.{◌≡◌, inl, inr, ℕ, ℤ, ◌<ℤ◌, ◌≤ℤ◌, Bool, List, [], ◌∷◌, length, drop, Option, None, Some, is_some, IsTrue, refl, sym, ap, subst, ◌∙◌}
+use Rattle.std.proofs.Common.{◌≡◌, inl, inr, ℕ, ℤ, ◌<ℤ◌, ◌≤ℤ◌, Bool, List, length, drop, Option, None, Some, is_some, IsTrue, refl, sym, ap, subst, ◌∙◌}
 use Rattle.std.specs.Prelude.{reverse}
-use Rattle.std.specs.List.{AllByRecursion}
 use Rattle.db_format.specs.Spill.{local_size}
-use Rattle.page_list.specs.Pages.{Pages, HasPage}
+use Rattle.page_list.specs.Pages.{Pages}
 use Rattle.page_list.specs.Chain.{pages_needed}
 use Rattle.page_list.specs.Edits.{taken_numbers}
 use Rattle.page_pool.specs.Space.{SpaceState}
 use Rattle.payload_chain.specs.Chains.{midway, with_chain}
 use Rattle.tree_page.specs.declared.cell.LeafCell.{LeafCell}
-use Rattle.tree_page.specs.Written.{Fits}
-use Rattle.tree_model.specs.Held.{HasCells}
 use Rattle.tree_model.specs.Whole.{below_all, greatest}
-use Rattle.page_cut.specs.declared.parts.Sheet.{Sheet}
 use Rattle.tree_plan.specs.Plan.{IsLeafPlan}
 use Rattle.tree_plan.specs.Climb.{AreClimbed}
-use Rattle.tree_write.specs.Write.{MayStand}
 use Rattle.tree_search.specs.Search.{Descends}
 use Rattle.tree_put.specs.Keeps.{IsChained, IsGiven, PutDone as PagesPut, PutKeepsWhole}
+use Rattle.tree_removed.proofs.StepLemmas.{each_written}
 use Rattle.rowid_tree.specs.Steps.{RestWritten, ReplacedFreed}
 use Rattle.rowid_tree.specs.Puts.{PutDone, PutsRow}
 
@@ -31,11 +27,6 @@ chained old new rest first told (inr some) =
       first_is = wrote.is told;
       pages_are = wrote.pages_are told ∙ ap (λ (p : Pages). with_chain old.page_size numbers rest p) (wrote.took.pages_are told);
     })
-
-pub each_written : (old new : Pages) (out : List Sheet) → AllByRecursion (λ sheet. MayStand old sheet → HasCells new sheet.number sheet.cells) out
-    → AllByRecursion (λ sheet. HasPage old sheet.number → Fits sheet.cells sheet.number old.usable → HasCells new sheet.number sheet.cells) out
-each_written old new [] all = tt
-each_written old new (s ∷ more) all = (λ there fits. all.0 (record { there = there; fits = fits }), each_written old new more all.1)
 
 given : (old new : SpaceState) (was : Option LeafCell) → IsTrue old.tells → ReplacedFreed old new was → IsGiven old.page_size old.pages new.pages was
 given old new None told stays = stays.pages_stay told

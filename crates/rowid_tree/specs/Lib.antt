@@ -1,3 +1,4 @@
 pub mod Steps
 pub mod Puts
 pub mod Roots
+pub mod Removes

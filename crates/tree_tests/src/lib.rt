@@ -5,3 +5,5 @@
 mod free;
 #[cfg(test)]
 mod puts;
+#[cfg(test)]
+mod removes;

@@ -34,7 +34,11 @@ pub(crate) fn database(
 }
 
 /// The pages of a space, for the slow program.
-pub(crate) fn pages_of(rt: &impl Abort, alloc: Global, space: &mut MemSpace) -> Result<RefPages, Fail> {
+pub(crate) fn pages_of(
+    rt: &impl Abort,
+    alloc: Global,
+    space: &mut MemSpace,
+) -> Result<RefPages, Fail> {
     let mut pages = Vec::new(alloc);
     let mut page = vec![in alloc; 0u8; space.page_size() as usize]?;
     for number in 1..space.size().wrapping_add(1) {
@@ -169,7 +173,7 @@ fn see_rows(
 }
 
 /// Sees that the pages are whole with these rows in each of the trees, all used, and no more of them than needed.
-fn see_whole(
+pub(crate) fn see_whole(
     rt: &impl Abort,
     alloc: Global,
     space: &mut MemSpace,
@@ -188,7 +192,11 @@ fn see_whole(
 }
 
 /// Puts a row into a sorted list of rowids and lengths, and answers whether there was one.
-fn put_listed(rows: &mut Vec<(i64, usize)>, rowid: i64, len: usize) -> Result<bool, Fail> {
+pub(crate) fn put_listed(
+    rows: &mut Vec<(i64, usize)>,
+    rowid: i64,
+    len: usize,
+) -> Result<bool, Fail> {
     match rows.binary_search_by_key(&rowid, |row| row.0) {
         Ok(at) => {
             rows[at].1 = len;

@@ -1,0 +1,4 @@
+pub mod RiseLemmas
+pub mod LevelLemmas
+pub mod PairLemmas
+pub mod LeafLemmas

@@ -1,0 +1,3 @@
+pub mod ShrinkLemmas
+pub mod LeafLemmas
+pub mod RemoveLemmas

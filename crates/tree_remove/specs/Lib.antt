@@ -1,0 +1,3 @@
+pub mod Shrink
+pub mod Steps
+pub mod Remove

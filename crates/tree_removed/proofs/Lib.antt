@@ -1,0 +1,12 @@
+pub mod StayLemmas
+pub mod ClimbLemmas
+pub mod PairLemmas
+pub mod JoinLemmas
+pub mod ShrinkLemmas
+pub mod RemovesLemmas
+pub mod FitLemmas
+pub mod MovedLemmas
+pub mod GivenLemmas
+pub mod StepLemmas
+pub mod ToppedLemmas
+pub mod DoneLemmas

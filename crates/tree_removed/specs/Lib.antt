@@ -1,0 +1,2 @@
+pub mod Removes
+pub mod Keeps

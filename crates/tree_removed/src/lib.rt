@@ -1,0 +1,6 @@
+//! What a removal makes of whole pages: laws.
+#![tactic(auto)]
+
+mod laws;
+
+pub use laws::{remove_keeps_whole, shrink_fits, shrink_removes};

@@ -1,0 +1,32 @@
+-- What follows for books.
+use Rattle.std.specs.Prelude.{◌≡◌, ℕ, ◌<◌, ◌^◌, List, ◌∷◌, length, map}
+use Rattle.page_list.specs.Pages.{Pages, HasPage, SamePage, Among}
+use Rattle.db_format.specs.Record.{IsRecord, IsShortest, AreBytes}
+use Rattle.db_format.specs.Schema.{tables_in}
+use Rattle.db_format.specs.declared.value.Value.{Value}
+use Rattle.tree_model.specs.Database.{IsWhole}
+use Rattle.tree_model.specs.Need.{need, use_of as pages_in_use}
+use Rattle.book_model.specs.Size.{types_size, record_size}
+use Rattle.book_model.specs.Book.{Book, use_of, need_of}
+use Rattle.book_model.specs.Pages.{IsBookOf, IsBook}
+
+-- whole pages have a book, and one alone; pages that are not whole have none
+pub record BookOfPages : Type 0 where
+  pub has : (page_size : ℕ) (pages : Pages) → IsWhole pages → (book : Book) × IsBook page_size pages book
+  pub one : (page_size : ℕ) (pages : Pages) (a b : Book) → IsBook page_size pages a → IsBook page_size pages b → a ≡ b
+  pub whole : (page_size : ℕ) (pages : Pages) (book : Book) → IsBook page_size pages book → IsWhole pages
+
+-- the book of pages whose named pages hold what they held says the same, and of the others their bytes
+abbrev pub BookStays : Type 0
+BookStays = (old new : Pages) (book : Book) → IsBookOf old book → new.size ≡ old.size → new.usable ≡ old.usable →
+    ((n : ℕ) → HasPage old n → ¬ (Among (map (λ page. page.0) book.unnamed) n) → SamePage old new n) →
+    IsBookOf new (record book { unnamed = map (λ page. (page.0, new.bytes page.0)) book.unnamed })
+
+-- what a book counts is what the trees count: the pages in use, and those that may be needed
+pub record BookCounts : Type 0 where
+  pub in_use : (pages : Pages) (book : Book) → (is : IsBookOf pages book) → use_of book ≡ pages_in_use (1 ∷ map (λ table. table.root) (tables_in is.found)) (is.schema ∷ is.trees)
+  pub needed : (pages : Pages) (book : Book) → (is : IsBookOf pages book) → need_of book ≡ need book.usable (1 ∷ map (λ table. table.root) (tables_in is.found)) (is.schema ∷ is.trees)
+
+-- the shortest record of some values has this size
+abbrev pub RecordHasSize : Type 0
+RecordHasSize = (payload : List ℕ) (values : List Value) → types_size values < 2 ^ 14 → AreBytes payload → IsRecord payload values → IsShortest payload values → length payload ≡ record_size values

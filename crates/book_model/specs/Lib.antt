@@ -1,0 +1,4 @@
+pub mod Size
+pub mod Book
+pub mod Pages
+pub mod Laws

@@ -1,0 +1,4 @@
+pub mod Tests
+pub mod Rests
+pub mod Parts
+pub mod SessionLemmas

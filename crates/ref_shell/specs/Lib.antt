@@ -1,0 +1,4 @@
+pub mod Shelf
+pub mod Machine
+pub mod Part
+pub mod Session

@@ -1,0 +1,12 @@
+//! The reference program of the shell: the reply that is due where the device does not fail, and the state
+//! after it, over anything that keeps a book; and a whole run, from the bytes of its input to those of its text.
+#![tactic(auto)]
+
+mod levels;
+mod machine;
+mod session;
+mod shelf;
+
+pub use machine::{Draft, Machine};
+pub use session::run;
+pub use shelf::Shelf;

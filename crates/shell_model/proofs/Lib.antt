@@ -1,0 +1,9 @@
+pub mod CaseLemmas
+pub mod CommandLemmas
+pub mod BookLemmas
+pub mod RowLemmas
+pub mod DraftLemmas
+pub mod RuleLemmas
+pub mod SettledLemmas
+pub mod OutcomeLemmas
+pub mod StepLemmas

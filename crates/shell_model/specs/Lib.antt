@@ -1,0 +1,5 @@
+pub mod State
+pub mod Cases
+pub mod Step
+pub mod Run
+pub mod Laws

@@ -1,5 +1,5 @@
 -- A put in whole pages writes a page, so that the space says that it was changed.
-use Rattle.std.proofs.Common.{inl, inr, ℕ, ◌≤◌, ℤ, ◌<ℤ◌, ◌≤ℤ◌, Bool, List, [], ◌∷◌, ◌++◌, length, IsTrue, sym, ap, subst, arith, length-append}
+use Rattle.std.proofs.Common.{inl, inr, ℕ, ◌≤◌, ℤ, ◌<ℤ◌, ◌≤ℤ◌, Bool, List, [], ◌∷◌, ◌++◌, length, IsTrue, sym, subst, arith}
 use Rattle.std.proofs.lemmas.Bool.{cases_lt}
 use Rattle.std.specs.List.{AllByRecursion}
 use Rattle.page_list.specs.Pages.{Pages, HasPage, times, Among}
@@ -9,32 +9,20 @@ use Rattle.page_list.proofs.TimesLemmas.{times-append, among-back}
 use Rattle.page_pool.specs.Space.{SpaceState}
 use Rattle.tree_page.specs.Laws.{FrontApart}
 use Rattle.tree_page.specs.Page.{OnePage}
-use Rattle.tree_page.specs.declared.cell.PageCells.TheVariants.{Interior}
 use Rattle.tree_model.specs.Tree.{Tree, pages_of}
 use Rattle.tree_model.specs.Whole.{below_all, greatest, IsWholeFor}
-use Rattle.tree_model.specs.declared.level.Level.{Level}
 use Rattle.tree_model.proofs.OthersLemmas.{split_named}
 use Rattle.page_cut.specs.declared.parts.Sheet.{Sheet}
-use Rattle.page_cut.specs.declared.parts.Sheets.{Sheets}
-use Rattle.tree_level.specs.Level.{up_cells}
-use Rattle.tree_plan.specs.Climb.{on, AreClimbed}
 use Rattle.tree_laws.proofs.RangeLemmas.{named_there}
 use Rattle.tree_put.specs.Puts.{HasPlace}
 use Rattle.tree_put.proofs.FitLemmas.{climb_fits}
 use Rattle.tree_write.specs.Write.{MayStand}
+use Rattle.tree_removed.proofs.StopLemmas.{climbed_some}
 use Rattle.rowid_tree.specs.Puts.{PutDone, HasWholeTree}
 use Rattle.rowid_tree.proofs.SoundLemmas.{climbing, grown, left_of}
 
--- a put writes a page at least
-out_some : (usable number : ℕ) (sheets : Sheets) (levels : List Level) (taken : List ℕ) (out : List Sheet) → AreClimbed usable number sheets levels taken out → 1 ≤ length out
-out_some usable number sheets [] taken out (inl fits) = omega (arith, ap (λ (l : List Sheet). length l) fits.2)
-out_some usable number sheets [] taken out (inr cut) =
-    omega (arith, ap (λ (l : List Sheet). length l) cut.out_are, length-append cut.front (on cut.page sheets.last ∷ on number (Interior (up_cells cut.front) cut.page) ∷ []))
-out_some usable number sheets (level ∷ above) taken out (front, more, others, settles, how) =
-    omega (arith, ap (λ (l : List Sheet). length l) settles.out_are, length-append front (on number sheets.last ∷ others))
-
--- and the first of them may stand where it is to
-one_stands : (pages : Pages) (tree : Tree) (taken : List ℕ) (out : List Sheet) (changed : Bool) → 1 ≤ length out
+-- the first of the sheets may stand where it is to
+pub one_stands : (pages : Pages) (tree : Tree) (taken : List ℕ) (out : List Sheet) (changed : Bool) → 1 ≤ length out
     → ((n : ℕ) → Among (pages_of tree ++ taken) n → HasPage pages n) → AllByRecursion (HasPlace pages tree taken) out
     → AllByRecursion (λ sheet. MayStand pages sheet → IsTrue changed) out → IsTrue changed
 one_stands pages tree taken [] changed some there places notes = absurd (omega (arith, some))
@@ -65,4 +53,4 @@ put_changes front_apart one_page old new root key payload replaced told above be
     ] in
     let N : Pages → Type 0 = λ q. AllByRecursion (λ sheet. MayStand q sheet → IsTrue done.placed.changed) p.sheets in
     done.noted
-    (one_stands full h.tree taken p.sheets done.placed.changed (out_some _ _ _ _ _ _ g.climb.climbed) there fits.1 (subst N (p.climbed.took.pages_are told) p.notes))
+    (one_stands full h.tree taken p.sheets done.placed.changed (climbed_some _ _ _ _ _ _ g.climb.climbed) there fits.1 (subst N (p.climbed.took.pages_are told) p.notes))

@@ -13,7 +13,7 @@ use Rattle.page_list.proofs.ManyLemmas.{taken_good_holds, gives_keep_holds}
 use Rattle.page_list.proofs.TimesLemmas.{times-append, among-here, among-back}
 use Rattle.page_pool.specs.Space.{SpaceState, HasSizes}
 use Rattle.page_pool.specs.Pool.{TakeAsks, TakeRefused, GiveRefused}
-use Rattle.payload_chain.specs.Chains.{midway, StopsTaking, PutRefused, WriteRefused, ReadRefused, StopsFreeing, FreeRefused}
+use Rattle.payload_chain.specs.Chains.{midway, StopsTaking, PutRefused, WriteRefused, ReadRefused, StopsGivingEach, StopsFreeing, FreeRefused}
 use Rattle.tree_page.specs.Laws.{FrontApart}
 use Rattle.tree_model.specs.Tree.{Tree}
 use Rattle.tree_model.specs.Whole.{IsWholeFor, named_pages}
@@ -21,6 +21,7 @@ use Rattle.tree_model.proofs.WholeLemmas.{one_named}
 use Rattle.tree_laws.proofs.CountLemmas.{pages_add_up}
 use Rattle.tree_laws.proofs.TakeLemmas.{whole_gives}
 use Rattle.tree_put.proofs.TookLemmas.{took}
+use Rattle.tree_removed.proofs.GivenLemmas.{AreUnnamed}
 use Rattle.tree_search.specs.Search.{IsNoDamage}
 
 no_bad : (pages : Pages) (page : ℕ) (sums : ℕ × ℕ) → IsGood pages page → pages.bad page ≡ Some sums → ⊥
@@ -86,7 +87,7 @@ write_clean front_apart s new rest roots trees trunks fault told sizes whole (in
     (subst E is stops.took.steady.sizes.few) in
     put_clean (midway s stops.met) new numbers fault told (subst G (sym is) good) stops.refused
 
--- a chain given back
+-- pages and a chain given back
 
 give_clean : (s new : SpaceState) (number : ℕ) (roots : List ℕ) (trees : List Tree) (trunks : List Trunk) (fault : SpaceFault) → IsTrue s.tells
     → IsWholeFor s.pages roots trees trunks → IsGood s.pages number → GiveRefused s new number fault → IsNoDamage fault
@@ -119,38 +120,50 @@ pub record IsLoose (pages : Pages) (first len : ℕ) (named : List ℕ) : Type 0
   pub long : length bytes ≡ len
   pub unnamed : (n : ℕ) → Among gone n → ¬ (Among named n)
 
-freeing_clean : FrontApart → (s new : SpaceState) (first len : ℕ) (roots : List ℕ) (trees : List Tree) (trunks : List Trunk) (fault : SpaceFault) → IsTrue s.tells → HasSizes s
-    → IsWholeFor s.pages roots trees trunks → IsLoose s.pages first len (named_pages roots trees trunks) → StopsFreeing s new first len fault → IsNoDamage fault
-freeing_clean front_apart s new first len roots trees trunks fault told sizes whole loose stops =
+-- pages that nothing names given back, one after the other
+pub giving_clean : FrontApart → (s new : SpaceState) (numbers roots : List ℕ) (trees : List Tree) (trunks : List Trunk) (fault : SpaceFault) → IsTrue s.tells → HasSizes s
+    → IsWholeFor s.pages roots trees trunks → AreUnnamed s.pages numbers (named_pages roots trees trunks) → StopsGivingEach s new numbers fault → IsNoDamage fault
+giving_clean front_apart s new numbers roots trees trunks fault told sizes whole loose stops =
     let given : List ℕ = stops.given in
-    let chain = loose.chain in
-    let all : given ++ stops.number ∷ stops.more ≡ loose.gone =
-    (one_chain_holds.one s.pages first (given ++ stops.number ∷ stops.more) loose.gone stops.payload loose.bytes (stops.chain told) chain (stops.long ∙ sym loose.long)).0 in
-    let counts : (n : ℕ) → times n given + times n (stops.number ∷ stops.more) ≡ times n loose.gone =
-    λ n. omega (arith, ap (times n) all, times-append n given (stops.number ∷ stops.more)) in
-    let number_in : Among loose.gone stops.number = omega (arith, counts stops.number, among-here stops.number stops.more) in
-    let in_gone : (n : ℕ) → Among given n → Among loose.gone n = λ n some. omega (arith, some, counts n) in
-    let at_least : (n : ℕ) → Among given n → 2 ≤ n = λ n some.
-    let P : ℕ → Type 0 = λ m. ¬ (Among (named_pages roots trees trunks) m) in
-    above_one n (chain.walked.each n (in_gone n some)).0.least
-    (λ is_one. subst P is_one (loose.unnamed n (in_gone n some)) (one_named s.pages roots trees trunks whole.each_tree)) in
-    let once : (n : ℕ) → times n given ≤ 1 = λ n. omega (arith, counts n, chain.walked.different.once n) in
+    let counts : (n : ℕ) → times n given + times n (stops.number ∷ stops.more) ≡ times n numbers =
+    λ n. omega (arith, ap (times n) stops.are, times-append n given (stops.number ∷ stops.more)) in
+    let number_in : Among numbers stops.number = omega (arith, counts stops.number, among-here stops.number stops.more) in
+    let inside : (n : ℕ) → Among given n → Among numbers n = λ n some. omega (arith, some, counts n) in
+    let once : (n : ℕ) → times n given ≤ 1 = λ n. omega (arith, counts n, loose.different.once n) in
     let gives = gives_keep_holds s.page_size s.pages trunks given (sizes.each told) whole.header.good whole.freelist
     (record {
-      each = λ n some. (at_least n some, (chain.walked.each n (in_gone n some)).0, λ free. loose.unnamed n (in_gone n some) (among-back n _ (free_pages trunks) free));
+      each = λ n some.
+          let is = loose.each n (inside n some) in (is.0, is.1, λ free. loose.unnamed n (inside n some) (among-back n _ (free_pages trunks) free));
       different = record { once = once };
     }) in
     let met_whole = whole_gives front_apart gives_keep_holds s.page_size s.pages roots trees trunks given (sizes.each told) whole
     (record {
-      each = λ n some. (at_least n some, (chain.walked.each n (in_gone n some)).0, loose.unnamed n (in_gone n some));
+      each = λ n some. let is = loose.each n (inside n some) in (is.0, is.1, loose.unnamed n (inside n some));
       different = record { once = once };
     })
-    (λ n some. (chain.walked.each n (in_gone n some)).1) in
+    (λ n some. (loose.each n (inside n some)).2) in
     let W : Pages → Type 0 = λ p. IsWholeFor p roots trees (give_each s.pages.usable given trunks) in
     let G : Pages → Type 0 = λ p. IsGood p stops.number in
     let is = stops.gave.pages_are told in
     give_clean (midway s stops.met) new stops.number roots trees (give_each s.pages.usable given trunks) fault told (subst W (sym is) met_whole)
-    (subst G (sym is) (gives.leaves.good stops.number (chain.walked.each stops.number number_in).1)) stops.refused
+    (subst G (sym is) (gives.leaves.good stops.number (loose.each stops.number number_in).2)) stops.refused
+
+freeing_clean : FrontApart → (s new : SpaceState) (first len : ℕ) (roots : List ℕ) (trees : List Tree) (trunks : List Trunk) (fault : SpaceFault) → IsTrue s.tells → HasSizes s
+    → IsWholeFor s.pages roots trees trunks → IsLoose s.pages first len (named_pages roots trees trunks) → StopsFreeing s new first len fault → IsNoDamage fault
+freeing_clean front_apart s new first len roots trees trunks fault told sizes whole loose stops =
+    let chain = loose.chain in
+    let all : stops.given ++ stops.number ∷ stops.more ≡ loose.gone =
+    (one_chain_holds.one s.pages first (stops.given ++ stops.number ∷ stops.more) loose.gone stops.payload loose.bytes (stops.chain told) chain (stops.long ∙ sym loose.long)).0 in
+    let at_least : (n : ℕ) → Among loose.gone n → 2 ≤ n = λ n some.
+    let P : ℕ → Type 0 = λ m. ¬ (Among (named_pages roots trees trunks) m) in
+    above_one n (chain.walked.each n some).0.least (λ is_one. subst P is_one (loose.unnamed n some) (one_named s.pages roots trees trunks whole.each_tree)) in
+    giving_clean front_apart s new loose.gone roots trees trunks fault told sizes whole
+    (record {
+      different = chain.walked.different;
+      each = λ n some. (at_least n some, (chain.walked.each n some).0, (chain.walked.each n some).1);
+      unnamed = loose.unnamed;
+    })
+    (record { given = stops.given; number = stops.number; more = stops.more; are = sym all; met = stops.met; gave = stops.gave; refused = stops.refused })
   where
     above_one : (n : ℕ) → 1 ≤ n → ¬ (n ≡ 1) → 2 ≤ n
     above_one n least other = grind (arith, least, other)

@@ -21,7 +21,7 @@ use Rattle.rowid_tree.specs.Puts.{StopsAtCell, StopsAtLeaf, StopsAtChain, PutRef
 use Rattle.rowid_tree.proofs.WholeLemmas.{chained}
 
 -- so many pages were taken, and the next take was refused as too large
-record StopsAtLarge (s : SpaceState) (needed n : ℕ) : Type 0 where
+pub record StopsAtLarge (s : SpaceState) (needed n : ℕ) : Type 0 where
   pub count : ℕ
   pub fewer : count < needed
   pub stopped : Pages
@@ -31,7 +31,7 @@ record StopsAtLarge (s : SpaceState) (needed n : ℕ) : Type 0 where
   pub next : n ≡ stopped.size + 1
   pub passes : greatest_length < n * s.page_size
 
-stops_at : (s new : SpaceState) (needed n : ℕ) → IsTrue s.tells → StopsTaking s new needed (Large n) → StopsAtLarge s needed n
+pub stops_at : (s new : SpaceState) (needed n : ℕ) → IsTrue s.tells → StopsTaking s new needed (Large n) → StopsAtLarge s needed n
 stops_at s new needed n told stops =
     let refused = stops.refused in
     record {
@@ -49,7 +49,7 @@ write_stops : (s new : SpaceState) (rest : List ℕ) (n : ℕ) → IsTrue s.tell
 write_stops s new rest n told (inl stops) = stops_at s new (pages_needed s.pages.usable (length rest)) n told stops
 write_stops s new rest n told (inr stops) = absurd stops.refused
 
-not_memory : (n : ℕ) → Large n ≡ Memory → ⊥
+pub not_memory : (n : ℕ) → Large n ≡ Memory → ⊥
 not_memory n is = cc
 
 cell_stops : (s new : SpaceState) (payload : List ℕ) (n : ℕ) → IsTrue s.tells → CellRefused s new payload (Large n)

@@ -9,3 +9,6 @@ mod LargeLemmas
 mod CleanLemmas
 mod SoundLemmas
 mod ChangedLemmas
+mod RemoveSoundLemmas
+mod RemoveChangedLemmas
+mod RemoveLargeLemmas

@@ -16,7 +16,8 @@ use Rattle.tree_write.specs.Write.{WriteLeaves, NotesSheets}
 use Rattle.tree_search.specs.declared.path.Descent.{Descent}
 use Rattle.rowid_tree.specs.Steps.{CellWritten, CellRefused, CellPlaced, StopsWriting, PlaceRefused, ReplacedFreed, FreeingRefused}
 use Rattle.rowid_tree.specs.Puts.{WayFound, WroteCell, PlacedCell, PutDone, StopsAtCell, StopsAtLeaf, StopsAtChain}
-use Rattle.rowid_tree.proofs.MoveLemmas.{moved-midway, moved-to, steady-moved, cell-moved, cell_refused-moved, placed-moved, put_refused-moved, place_refused-moved, freed-moved, freeing_refused-moved}
+use Rattle.tree_remove.proofs.MoveLemmas.{moved-midway, moved-to, steady-moved, put_refused-moved}
+use Rattle.rowid_tree.proofs.MoveLemmas.{cell-moved, cell_refused-moved, placed-moved, place_refused-moved, freed-moved, freeing_refused-moved}
 
 -- where the space said that it was changed, it still does
 still_changed : (a b : SpaceState) → NotesChange a b → IsTrue a.changed → IsTrue b.changed

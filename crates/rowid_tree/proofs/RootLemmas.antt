@@ -15,7 +15,7 @@ use Rattle.tree_page.specs.declared.cell.PageCells.TheVariants.{Leaf as LeafPage
 use Rattle.page_cut.specs.declared.parts.Sheet.{Sheet}
 use Rattle.tree_write.specs.Write.{MayStand, WriteLeaves, NotesSheets}
 use Rattle.rowid_tree.specs.Roots.{EmptyWritten, EmptyRefused, StopsAtRoot}
-use Rattle.rowid_tree.proofs.MoveLemmas.{moved-to, put_refused-moved}
+use Rattle.tree_remove.proofs.MoveLemmas.{moved-to, put_refused-moved}
 
 -- a page of a database has room for the header of a leaf
 room_of : (n usable : ℕ) → 480 ≤ usable → first_pointer n (page_kind (LeafPage [])) + 0 ≤ usable

@@ -54,11 +54,11 @@ use Rattle.rowid_tree.proofs.WholeLemmas.{chained}
 use Rattle.rowid_tree.proofs.CleanLemmas.{taking_clean, all_taken_good, put_clean, write_clean, IsLoose, free_clean}
 
 -- want of memory names no page
-memory_clean : (fault : SpaceFault) → fault ≡ Memory → IsNoDamage fault
+pub memory_clean : (fault : SpaceFault) → fault ≡ Memory → IsNoDamage fault
 memory_clean fault is = let P : SpaceFault → Type 0 = IsNoDamage in subst P (sym is) tt
 
 -- the search
-search_clean : OnePath → PathFinds → (old new : SpaceState) (root : ℕ) (key : ℤ) (fault : SpaceFault) → IsTrue old.tells
+pub search_clean : OnePath → PathFinds → (old new : SpaceState) (root : ℕ) (key : ℤ) (fault : SpaceFault) → IsTrue old.tells
     → SearchRefused old new (λ f. Path None old.pages root key (Ends f)) fault → (tree : Tree) → IsWholeTree old.pages root tree → IsNoDamage fault
 search_clean once finds old new root key Failed told refused tree whole = tt
 search_clean once finds old new root key Memory told refused tree whole = tt

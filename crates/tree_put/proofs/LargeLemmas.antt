@@ -45,7 +45,7 @@ use Rattle.tree_put.proofs.PreparedLemmas.{chain_count, prepared}
 use Rattle.tree_put.proofs.RowLemmas.{found, shown_put, has_at, length_put, has_over}
 
 -- page 1 names no trunk where no page is free
-no_trunk : (pages : Pages) (trunks : List Trunk) → IsFreelist pages trunks → first_trunk pages ≡ 0 → trunks ≡ []
+pub no_trunk : (pages : Pages) (trunks : List Trunk) → IsFreelist pages trunks → first_trunk pages ≡ 0 → trunks ≡ []
 no_trunk pages [] is none = refl
 no_trunk pages (trunk ∷ more) is none =
     absurd (omega (arith, (is.within trunk.number (among-here trunk.number _)).1, is.linked.0, none))
@@ -106,7 +106,7 @@ rows_up pages low high key depth child step beside stands =
     )
 
 -- so a tree has a row at least for each page of the way but one
-rows_over : (pages : Pages) (low high key : ℤ) (depth : ℕ) (child : Tree) (steps : List Beside) → AreBeside low high key child steps
+pub rows_over : (pages : Pages) (low high key : ℤ) (depth : ℕ) (child : Tree) (steps : List Beside) → AreBeside low high key child steps
     → AreStanding pages low high depth child steps
     → (length (rows_of child) ≤ length (rows_of (tree_over child steps))) × (length (rows_of child) + length steps ≤ length (rows_of (tree_over child steps)) + 1)
 rows_over pages low high key depth child [] beside standing = (omega arith, omega arith)
@@ -119,7 +119,7 @@ rows_over pages low high key depth child (step ∷ s ∷ more) beside standing =
     let rest = rows_over pages low high key (suc depth) (with_child child step) (s ∷ more) beside.1 standing.2 in
     (omega (arith, up, rest.0), omega (arith, up, some, rest.1))
 
-leaf_some : (pages : Pages) (low high : ℤ) (depth : ℕ) (child : Tree) (steps : List Beside) → AreStanding pages low high depth child steps
+pub leaf_some : (pages : Pages) (low high : ℤ) (depth : ℕ) (child : Tree) (steps : List Beside) → AreStanding pages low high depth child steps
     → (steps ≡ []) ⊎ (1 ≤ length (rows_of child))
 leaf_some pages low high depth child [] standing = inl refl
 leaf_some pages low high depth child (step ∷ steps) standing =

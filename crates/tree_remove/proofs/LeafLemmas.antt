@@ -4,6 +4,7 @@ use Rattle.std.specs.List.{AllByRecursion}
 use Rattle.std.proofs.lemmas.Bool.Decides.{nat_tests}
 use Rattle.db_format.specs.Spill.{local_size}
 use Rattle.tree_page.specs.declared.cell.LeafCell.{LeafCell}
+use Rattle.tree_page.specs.declared.cell.PageCells.{PageCells}
 use Rattle.tree_page.specs.declared.cell.PageCells.TheVariants.{Leaf}
 use Rattle.tree_page.specs.Page.{leaf}
 use Rattle.tree_page.specs.Written.{Fits, IsSound, KeepsLocal}
@@ -16,6 +17,7 @@ use Rattle.tree_join.specs.declared.level.Left.TheVariants.{Parts, Over, Nothing
 use Rattle.tree_join.specs.Leaf.{other_cells, IsTakenOut}
 use Rattle.tree_join.specs.Join.{IsLeafLeft}
 use Rattle.tree_remove.specs.Shrink.{IsLeftPlan}
+use Rattle.tree_remove.specs.Steps.{IsLeftOfLeaf}
 
 -- the cell stands between others
 record Splits (key : ℤ) (cells : List LeafCell) (cell : LeafCell) : Type 0 where
@@ -71,4 +73,11 @@ others_fit key number usable cells taken fits is =
 pub leaf_planned : (number usable : ℕ) (cells : List LeafCell) (left : Left) → IsLeafLeft number usable cells left → IsLeftPlan number usable left
 leaf_planned number usable cells Nothing is = tt
 leaf_planned number usable cells (Over child) is = absurd is
-leaf_planned number usable cells (Parts sheets) is = record { whole = Leaf cells; cut = inl is.1 }
+leaf_planned number usable cells (Parts sheets) is =
+    let P : PageCells → Type 0 = λ c. Fits c number usable in
+    (record { whole = Leaf cells; cut = inl is.1 }, λ none. subst P (sym is.1.all) is.1.fits)
+
+pub leaf_left : (number usable : ℕ) (cells : List LeafCell) (left : Left) → IsLeafLeft number usable cells left → IsLeftOfLeaf left
+leaf_left number usable cells Nothing is = tt
+leaf_left number usable cells (Over child) is = absurd is
+leaf_left number usable cells (Parts sheets) is = is.1.none

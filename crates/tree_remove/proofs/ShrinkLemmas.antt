@@ -1,38 +1,68 @@
 -- What becomes of a way, level by level.
-use Rattle.std.proofs.Common.{◌≡◌, ◌⊎◌, inl, inr, ℕ, ◌+◌, List, [], ◌∷◌, ◌++◌, length, reverse, IsTrue, Option, Some, None, IfSome, refl, sym, ap, subst, ◌∙◌, arith, append_assoc, append-nil, length-append}
+use Rattle.std.proofs.Common.{◌≡◌, ◌⊎◌, inl, inr, ℕ, zero, suc, ◌+◌, ◌*◌, ◌≤◌, ◌<◌, List, [], ◌∷◌, ◌++◌, length, reverse, IsTrue, Option, Some, None, IfSome, refl, sym, ap, subst, ◌∙◌, arith, append_assoc, append-nil, length-append}
 use Rattle.std.proofs.lemmas.List.{reverse-append}
 use Rattle.std.specs.List.{AllByRecursion}
 use Rattle.page_list.specs.Pages.{Pages, HasPage, Among}
 use Rattle.page_list.specs.Edits.{taken_numbers}
 use Rattle.page_list.proofs.TimesLemmas.{times-append, among-more}
-use Rattle.page_pool.specs.Space.{SpaceState, Steady, Stays}
-use Rattle.payload_chain.specs.Chains.{HasEach, TookEach}
-use Rattle.payload_chain.proofs.StateLemmas.{steady-on, stays-on}
+use Rattle.page_pool.specs.Space.{SpaceState, HasSizes, Steady, Stays}
+use Rattle.payload_chain.specs.Chains.{HasEach, TookEach, StopsTaking}
+use Rattle.payload_chain.proofs.StateLemmas.{steady-same, steady-on, stays-same, stays-on}
 use Rattle.db_format.specs.declared.fault.SpaceFault.{SpaceFault}
+use Rattle.tree_page.specs.declared.cell.InnerCell.{InnerCell}
 use Rattle.tree_page.specs.declared.cell.PageCells.{PageCells}
 use Rattle.tree_page.specs.declared.cell.PageCells.TheVariants.{Interior}
+use Rattle.tree_page.specs.Written.{Fits}
 use Rattle.tree_model.specs.declared.level.Level.{Level}
 use Rattle.tree_model.specs.Held.{HasCells}
 use Rattle.tree_model.specs.Walk.{IsFault}
 use Rattle.page_cut.specs.declared.parts.Sheet.{Sheet}
 use Rattle.page_cut.specs.declared.parts.Sheets.{Sheets}
-use Rattle.tree_plan.specs.Climb.{AreClimbed}
-use Rattle.tree_write.specs.Climb.{MayClimb, IsPlanOf, spare, ClimbRefused}
+use Rattle.page_cut.specs.Cut.{IsCut}
+use Rattle.tree_plan.specs.Law.{AreNumbered}
+use Rattle.tree_plan.specs.Climb.{on, AreClimbed}
+use Rattle.tree_write.specs.Climb.{MayClimb, spare}
 use Rattle.tree_write.proofs.TakesLemmas.{took-on, stops-on}
 use Rattle.tree_search.specs.Search.{SearchRefused, IsStep}
 use Rattle.tree_search.proofs.StateLemmas.{refused_on, refused_as}
 use Rattle.tree_join.specs.declared.level.Left.{Left}
 use Rattle.tree_join.specs.declared.level.Left.TheVariants.{Parts, Over, Nothing}
-use Rattle.tree_join.specs.Join.{IsLeftOut, sibling_of, listed}
+use Rattle.tree_join.specs.Join.{IsLeftOut, sibling_of, listed, with_pair, IsAfter}
 use Rattle.tree_remove.specs.declared.beside.Risen.{Risen}
 use Rattle.tree_remove.specs.declared.upward.Shrunk.{Shrunk}
 use Rattle.tree_remove.specs.Shrink.{AreShrunk, ShrunkTo, MeetsBeside, ShrinkRefused, IsLeftPlan}
-use Rattle.tree_remove.specs.Steps.{IsJoinedWith, IsRise, left_as, root_sheets, ClimbedOn}
+use Rattle.tree_remove.specs.Steps.{IsJoinedWith, IsRise, HasFewParts, IsLeftOfLeaf, most_taken, left_as, root_sheets, ClimbedOn}
 
 pub left_planned : (usable : ℕ) (level : Level) (left : Left) → IsLeftOut usable level left → IsLeftPlan level.number usable left
 left_planned usable level Nothing out = tt
 left_planned usable level (Over child) out = tt
-left_planned usable level (Parts sheets) out = record { whole = Interior out.0 out.1; cut = inl out.4 }
+left_planned usable level (Parts sheets) out =
+    let P : PageCells → Type 0 = λ c. Fits c level.number usable in
+    (record { whole = Interior out.0 out.1; cut = inl out.4 }, λ none. subst P (sym out.4.all) out.4.fits)
+
+pub left_few : (usable : ℕ) (level : Level) (left : Left) → IsLeftOut usable level left → HasFewParts None left
+left_few usable level Nothing out = tt
+left_few usable level (Over child) out = tt
+left_few usable level (Parts sheets) out = omega (arith, ap (λ (l : List Sheet). length l) out.4.none)
+
+cut_few : (number usable : ℕ) (cells : List InnerCell) (right : ℕ) (sheets : Sheets) → IsCut number usable (Interior cells right) sheets → length sheets.front.items ≤ 1
+cut_few number usable cells right sheets (inl whole) = omega (arith, ap (λ (l : List Sheet). length l) whole.none)
+cut_few number usable cells right sheets (inr up) = omega (arith, up.few)
+
+pub after_few : (usable : ℕ) (level : Level) (front : List Sheet) (child : ℕ) (left : Left) → IsAfter usable level front left → HasFewParts (Some child) left
+after_few usable level front child Nothing after = tt
+after_few usable level front child (Over page) after = tt
+after_few usable level front child (Parts sheets) after = cut_few level.number usable (with_pair level front) level.right sheets after.1
+
+cut_fits : (number usable : ℕ) (cells : List InnerCell) (right : ℕ) (sheets : Sheets) → IsCut number usable (Interior cells right) sheets → sheets.front.items ≡ [] → Fits sheets.last number usable
+cut_fits number usable cells right sheets (inl whole) none = let P : PageCells → Type 0 = λ c. Fits c number usable in subst P (sym whole.all) whole.fits
+cut_fits number usable cells right sheets (inr up) none = absurd (omega (arith, up.few, ap (λ (l : List Sheet). length l) none))
+
+pub after_planned : (usable : ℕ) (level : Level) (front : List Sheet) (left : Left) → IsAfter usable level front left → IsLeftPlan level.number usable left
+after_planned usable level front Nothing after = tt
+after_planned usable level front (Over page) after = tt
+after_planned usable level front (Parts sheets) after =
+    (record { whole = Interior (with_pair level front) level.right; cut = after.1 }, cut_fits level.number usable (with_pair level front) level.right sheets after.1)
 
 some_is : {A : Type 0} (a b c : Option A) (x y : A) → a ≡ Some x → a ≡ Some y → x ≡ y
 some_is a b c x y p q = cc
@@ -104,6 +134,9 @@ pub record ShrinksAlong (old : SpaceState) (leaf : ℕ) (first : Left) (all left
   pub none_over : shrunk.over ≡ None
   pub rest : IsTrue old.tells → (taken : List ℕ) (out : List Sheet) (lost : List ℕ) (over : Option ℕ) → AreShrunk old.pages number current (reverse left) taken out lost over
       → AreShrunk old.pages leaf first (reverse all) taken (shrunk.out.items ++ out) (shrunk.lost.items ++ lost) over
+
+pub along-within : {old : SpaceState} {leaf : ℕ} {first : Left} {all left : List Level} {number : ℕ} {current : Left} {shrunk : Shrunk} → ShrinksAlong old leaf first all left number current shrunk → length left ≤ length all
+along-within {left = left} along = omega (arith, ap (λ (l : List Level). length l) along.levels, length-append left along.back)
 
 no_page : (pages : Pages) → HasEach pages []
 no_page pages = record { each = λ n among. absurd (omega (arith, among)) }
@@ -265,20 +298,53 @@ shrink-meets {old = old} {now = now} {all = all} {left = left} new left' level f
           (refused_on old now new (λ p. IsFault p 1 level.number (sibling_of level)) fault steady stays refused),
     )
 
+-- how many levels may be climbed: two fewer than there are, since a child is left of a page above the leaf at the lowest
+abbrev pub ClimbsFew : List Level → List Level → Left → Type 0
+ClimbsFew all left (Parts sheets) = (length sheets.front.items ≡ 0) ⊎ ((length sheets.front.items ≡ 1) × (length left + 2 ≤ length all))
+ClimbsFew all left (Over child) = length left + 1 ≤ length all
+ClimbsFew all left Nothing = Unit {0}
+
+pub climbs-begin : (all : List Level) (left : Left) → IsLeftOfLeaf left → ClimbsFew all all left
+climbs-begin all (Parts sheets) is = inl (ap (λ (l : List Sheet). length l) is)
+climbs-begin all (Over child) is = absurd is
+climbs-begin all Nothing is = tt
+
+pub climbs-on : (all left left' : List Level) (level : Level) (child : Option ℕ) (current next : Left) → ClimbsFew all left current → left ≡ left' ++ level ∷ [] → length left ≤ length all → current ≡ left_as child
+    → HasFewParts child next → ClimbsFew all left' next
+climbs-on all left left' level None current (Parts sheets) few pop within is parts = inl (omega (arith, parts))
+climbs-on all left left' level (Some child) current (Parts sheets) few pop within is parts =
+    let P : Left → Type 0 = λ l. ClimbsFew all left l in
+    let over : length left + 1 ≤ length all = subst P is few in
+    let long = ap (λ (l : List Level). length l) pop ∙ length-append left' (level ∷ []) in
+    elim (few_or_one (length sheets.front.items) parts) [ inl none ↦ inl none | inr one ↦ inr (one, omega (arith, over, long)) ]
+  where
+    few_or_one : (n : ℕ) → n ≤ 1 → (n ≡ 0) ⊎ (n ≡ 1)
+    few_or_one zero few = inl refl
+    few_or_one (suc zero) few = inr refl
+    few_or_one (suc (suc n)) few = absurd (omega (arith, few))
+climbs-on all left left' level child current (Over page) few pop within is parts = omega (arith, within, ap (λ (l : List Level). length l) pop, length-append left' (level ∷ []))
+climbs-on all left left' level child current Nothing few pop within is parts = tt
+
 -- a take is refused
 pub shrink-stops : {old now : SpaceState} {leaf : ℕ} {first : Left} {all left : List Level} {number : ℕ} {current : Left} {shrunk : Shrunk}
-    (new : SpaceState) (fault : SpaceFault) → ShrinksAlong old leaf first all left number current shrunk → Steady old now → Stays old now → ClimbRefused now new (length left + 3) fault
-    → ShrinkRefused old new all fault
-shrink-stops {all = all} {left = left} new fault along steady stays refused =
-    inr (stops-on new (length all + 3 + spare fault) fault (took_zero steady stays) refused
-    (omega (arith, ap (λ (l : List Level). length l) along.levels, length-append left along.back)))
+    (new : SpaceState) (sheets : Sheets) (fault : SpaceFault) → ShrinksAlong old leaf first all left number current shrunk → Steady old now → Stays old now → ClimbsFew all left current → current ≡ Parts sheets
+    → StopsTaking now new (most_taken (length sheets.front.items) (length left) + 2 * spare fault) fault → ShrinkRefused old new all fault
+shrink-stops {all = all} {left = left} new sheets fault along steady stays few is refused =
+    let P : Left → Type 0 = λ l. ClimbsFew all left l in
+    inr (stops-on new (length all + 2 * spare fault) fault (took_zero steady stays) refused
+    (within (length sheets.front.items) (length left) (length all) (spare fault) (subst P is few)))
+  where
+    within : (front left all spare : ℕ) → (front ≡ 0) ⊎ ((front ≡ 1) × (left + 2 ≤ all)) → 0 + (most_taken front left + 2 * spare) ≤ all + 2 * spare
+    within zero left all spare few = omega arith
+    within (suc front) left all spare (inl none) = absurd (omega (arith, none))
+    within (suc front) left all spare (inr one) = omega (arith, one.0, one.1)
 
 pub may_climb : (size usable : ℕ) (levels : List Level) → AllByRecursion (IsStep size usable) levels → AllByRecursion (MayClimb usable) levels
 may_climb size usable [] all = tt
 may_climb size usable (level ∷ more) all = (record { least = all.0.least; fits = all.0.fits; at = all.0.at }, may_climb size usable more all.1)
 
-pub parts_planned : (number usable : ℕ) (left : Left) (sheets : Sheets) → IsLeftPlan number usable left → left ≡ Parts sheets → IsPlanOf number usable sheets
-parts_planned number usable left sheets is same = let P : Left → Type 0 = λ l. IsLeftPlan number usable l in subst P same is
+pub next_few : (child : Option ℕ) (next : Option Left) (left : Left) → IfSome next (HasFewParts child) → next ≡ Some left → HasFewParts child left
+next_few child next left has is = let P : Option Left → Type 0 = λ o. IfSome o (HasFewParts child) in subst P is has
 
 pub all_front : {A : Type 0} (P : A → Type 0) (xs : List A) (x : A) → AllByRecursion P (xs ++ x ∷ []) → AllByRecursion P xs × P x
 all_front P [] x all = (tt, all.0)
@@ -307,3 +373,29 @@ level_there pages level is = record { least = is.least; most = is.most }
 
 pub popped : (size usable : ℕ) (left left' : List Level) (level : Level) → AllByRecursion (IsStep size usable) left → left ≡ left' ++ level ∷ [] → AllByRecursion (IsStep size usable) left' × IsStep size usable level
 popped size usable left left' level each pop = let P : List Level → Type 0 = λ l. AllByRecursion (IsStep size usable) l in all_front (IsStep size usable) left' level (subst P pop each)
+
+-- a page of one part takes no page, and those above it stay
+
+climbed_none : (usable number : ℕ) (plan : Sheets) (levels : List Level) → plan.front.items ≡ [] → Fits plan.last number usable → AreClimbed usable number plan levels [] (on number plan.last ∷ [])
+climbed_none usable number plan [] none fits = inl ((none, fits), refl, refl)
+climbed_none usable number plan (level ∷ above) none fits =
+    let N : List Sheet → Type 0 = λ l. AreNumbered l [] in
+    ([], [], [], record { numbered = subst N (sym none) tt; taken_are = refl; out_are = refl }, inl (refl, refl, refl))
+
+pub climbs-none : (s : SpaceState) (number : ℕ) (plan : Sheets) (levels : List Level) (before after : Shrunk) → HasSizes s → plan.front.items ≡ [] → Fits plan.last number s.pages.usable
+    → after.out.items ≡ before.out.items ++ on number plan.last ∷ [] → after.lost.items ≡ before.lost.items → after.over ≡ before.over → ClimbedOn s s number plan levels before after
+climbs-none s number plan levels before after sizes none fits out_are lost_are over_is = record {
+  more = on number plan.last ∷ [];
+  climbed = record { count = 0; few = omega arith; took = took_zero (steady-same sizes) stays-same; are = λ t. climbed_none s.pages.usable number plan (reverse levels) none fits };
+  out = out_are;
+  lost = lost_are;
+  over = over_is;
+}
+
+pub taken_most : (front levels : ℕ) → 1 ≤ front → levels + 3 < most_taken front levels + 2
+taken_most zero levels some = absurd (omega (arith, some))
+taken_most (suc front) levels some = omega arith
+
+pub taken_within : (front levels spare : ℕ) → 1 ≤ front → 0 + (front + levels + 1 + spare) ≤ most_taken front levels + 2 * spare
+taken_within zero levels spare some = absurd (omega (arith, some))
+taken_within (suc front) levels spare some = omega arith

@@ -1,21 +1,22 @@
 -- What a removal does to the pages of its way, from the leaf up.
 -- After sqlite.org, "Database File Format", section 1.6, "B-tree Pages".
-use Rattle.std.specs.Prelude.{◌≡◌, ◌≢◌, ◌⊎◌, ℕ, ◌+◌, ◌≤◌, List, [], ◌∷◌, ◌++◌, length, reverse, Option, Some, None, IsTrue}
+use Rattle.std.specs.Prelude.{◌≡◌, ◌≢◌, ◌⊎◌, ℕ, ◌+◌, ◌*◌, ◌≤◌, List, [], ◌∷◌, ◌++◌, length, reverse, Option, Some, None, IsTrue}
 use Rattle.page_list.specs.Pages.{Pages}
 use Rattle.page_list.specs.Edits.{taken_numbers}
 use Rattle.page_pool.specs.Space.{SpaceState, Stays}
-use Rattle.payload_chain.specs.Chains.{HasEach, TookEach}
+use Rattle.payload_chain.specs.Chains.{HasEach, TookEach, StopsTaking}
 use Rattle.db_format.specs.declared.fault.SpaceFault.{SpaceFault}
 use Rattle.tree_page.specs.declared.cell.InnerCell.{InnerCell}
 use Rattle.tree_page.specs.declared.cell.PageCells.{PageCells}
 use Rattle.tree_page.specs.declared.cell.PageCells.TheVariants.{Leaf, Interior}
+use Rattle.tree_page.specs.Written.{Fits}
 use Rattle.tree_model.specs.declared.level.Level.{Level}
 use Rattle.tree_model.specs.declared.ends.Fault.{Fault}
 use Rattle.tree_model.specs.Held.{HasCells}
 use Rattle.tree_model.specs.Walk.{IsFault}
 use Rattle.page_cut.specs.declared.parts.Sheet.{Sheet}
 use Rattle.tree_plan.specs.Climb.{on, AreClimbed}
-use Rattle.tree_write.specs.Climb.{IsPlanOf, ClimbRefused}
+use Rattle.tree_write.specs.Climb.{IsPlanOf, spare}
 use Rattle.tree_search.specs.Search.{SearchRefused}
 use Rattle.tree_join.specs.declared.level.Left.{Left}
 use Rattle.tree_join.specs.declared.level.Left.TheVariants.{Parts, Over, Nothing}
@@ -84,12 +85,16 @@ pub record MeetsBeside (pages : Pages) (levels : List Level) (fault : Fault) : T
   pub among : levels ≡ front ++ level ∷ back
   pub is : IsFault pages 1 level.number (sibling_of level) fault
 
+-- fewer pages were taken than the way has interior pages, and the next take was refused; want of memory may come once all are taken
+abbrev pub TakingRefused : SpaceState → SpaceState → List Level → SpaceFault → Type 0
+TakingRefused old new levels fault = StopsTaking old new (length levels + 2 * spare fault) fault
+
 -- why it was refused: nothing has changed, and a page beside cannot be gone over; or some pages were taken and the next take was refused
 abbrev pub ShrinkRefused : SpaceState → SpaceState → List Level → SpaceFault → Type 0
-ShrinkRefused old new levels fault = (Stays old new × SearchRefused old new (MeetsBeside old.pages levels) fault) ⊎ ClimbRefused old new (length levels + 3) fault
+ShrinkRefused old new levels fault = (Stays old new × SearchRefused old new (MeetsBeside old.pages levels) fault) ⊎ TakingRefused old new levels fault
 
--- the parts, where there are some, are those of the cells of a page
+-- the parts, where there are some, are those of the cells of a page, and one alone fits on it
 abbrev pub IsLeftPlan : ℕ → ℕ → Left → Type 0
-IsLeftPlan number usable (Parts sheets) = IsPlanOf number usable sheets
+IsLeftPlan number usable (Parts sheets) = IsPlanOf number usable sheets × (sheets.front.items ≡ [] → Fits sheets.last number usable)
 IsLeftPlan number usable (Over child) = Unit {0}
 IsLeftPlan number usable Nothing = Unit {0}

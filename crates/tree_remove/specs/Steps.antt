@@ -1,5 +1,5 @@
 -- Words for the steps inside the crate.
-use Rattle.std.specs.Prelude.{◌≡◌, ◌⊎◌, ℕ, ◌≤◌, List, [], ◌∷◌, ◌++◌, length, Option, Some, None, Result, Ok, Err}
+use Rattle.std.specs.Prelude.{◌≡◌, ◌⊎◌, ℕ, zero, suc, ◌+◌, ◌≤◌, List, [], ◌∷◌, ◌++◌, length, Option, Some, None, Result, Ok, Err}
 use Rattle.page_list.specs.Pages.{Pages}
 use Rattle.page_pool.specs.Space.{SpaceState}
 use Rattle.tree_page.specs.declared.cell.InnerCell.{InnerCell}
@@ -62,6 +62,27 @@ pub record IsBeside (pages : Pages) (number child : ℕ) (level : Level) (risen 
 abbrev pub IsRise : Pages → ℕ → Option ℕ → Level → Risen → Type 0
 IsRise pages number None level risen = (left : Left) × IsLeftOut pages.usable level left × Goes number left risen
 IsRise pages number (Some child) level risen = ((level.cells ≡ []) × Goes number (Over child) risen) ⊎ IsBeside pages number child level risen
+
+-- a page that loses a child stays on itself, and the page above two that were joined is cut in two at most
+abbrev pub most_more : Option ℕ → ℕ
+most_more None = 0
+most_more (Some child) = 1
+
+abbrev pub HasFewParts : Option ℕ → Left → Type 0
+HasFewParts child (Parts sheets) = length sheets.front.items ≤ most_more child
+HasFewParts child (Over page) = Unit {0}
+HasFewParts child Nothing = Unit {0}
+
+-- what is left of the leaf is on its page, and is no child
+abbrev pub IsLeftOfLeaf : Left → Type 0
+IsLeftOfLeaf (Parts sheets) = sheets.front.items ≡ []
+IsLeftOfLeaf (Over child) = ⊥
+IsLeftOfLeaf Nothing = Unit {0}
+
+-- so many pages are taken at most for a page with these parts below so many levels: none for one part
+abbrev pub most_taken : ℕ → ℕ → ℕ
+most_taken zero levels = 0
+most_taken (suc front) levels = front + levels + 2
 
 abbrev pub left_as : Option ℕ → Left
 left_as None = Nothing

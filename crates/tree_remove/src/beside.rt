@@ -1,6 +1,6 @@
 //! One page of the way that keeps one child or none, and the page above it.
 
-ghost use Rattle.std.specs.Prelude.{◌≡◌, ◌≤◌, [], length, IsTrue, IfOk, IfErr, IfSome};
+ghost use Rattle.std.specs.Prelude.{◌≡◌, ◌≤◌, [], length, Some, IsTrue, IfOk, IfErr, IfSome};
 ghost use Rattle.page_list.specs.Pages.{HasPage};
 ghost use Rattle.page_pool.specs.Space.{IsReady, Steady, Stays};
 ghost use Rattle.tree_page.specs.Written.{Fits};
@@ -11,7 +11,7 @@ ghost use Rattle.tree_plan.specs.Climb.{on};
 ghost use Rattle.tree_search.specs.Search.{SearchRefused, IsStep};
 ghost use Rattle.tree_join.specs.Join.{sibling_of};
 ghost use Rattle.tree_remove.specs.Shrink.{IsLeftPlan};
-ghost use Rattle.tree_remove.specs.Steps.{IsRise, IsJoinedWith, IsOneOfPair, Goes, StaysAlone};
+ghost use Rattle.tree_remove.specs.Steps.{IsRise, IsJoinedWith, IsOneOfPair, HasFewParts, Goes, StaysAlone};
 
 use page_cut::Sheet;
 use page_pool::{PageSpace, SpaceFault};
@@ -51,6 +51,7 @@ pub(crate) fn rise<S: PageSpace>(
     ensures risen { IsTrue (S.state space.old).tells → IfOk result (IsRise (S.state space.old).pages number child level) }
     ensures lost { IfOk result (λ risen. IfSome risen.lost (HasPage (S.state space.old).pages)) }
     ensures planned { IfOk result (λ risen. IfSome risen.next (IsLeftPlan level.number (S.state space.old).pages.usable)) }
+    ensures few { IfOk result (λ risen. IfSome risen.next (HasFewParts child)) }
     ensures refused { IfErr result (SearchRefused (S.state space.old) (S.state space.new) (IsFault (S.state space.old).pages 1 level.number (sibling_of level))) }
 {
     let usable = space.usable();
@@ -119,6 +120,7 @@ fn join_with(
     ensures joined { IfOk result (IsJoinedWith usable number child level cells) }
     ensures lost { IfOk result (λ risen. IfSome risen.lost (IsOneOfPair number level)) }
     ensures planned { IfOk result (λ risen. IfSome risen.next (IsLeftPlan level.number usable)) }
+    ensures few { IfOk result (λ risen. IfSome risen.next (HasFewParts (Some child))) }
 {
     let PageCells::Interior { cells, right } = cells else {
         return stays_alone(alloc, number, child);

@@ -3,7 +3,9 @@
 ghost use Rattle.std.specs.Prelude.{◌≡◌, ◌≤◌, false, length, IsTrue, IfOk, IfErr, OnOk};
 ghost use Rattle.page_pool.specs.Space.{IsWritable, HasSizes, Steady, Stays};
 ghost use Rattle.page_pool.specs.Pool.{NotesChange};
-ghost use Rattle.tree_remove.specs.Remove.{RemoveDone, RemoveRefused, ChainGone, IsLater};
+ghost use Rattle.payload_chain.specs.Chains.{FreeRefused};
+ghost use Rattle.tree_model.specs.Walk.{rest_of};
+ghost use Rattle.tree_remove.specs.Remove.{RemoveDone, RemoveRefused, ChainGone};
 
 use crate::root::settle;
 use crate::upward::shrink;
@@ -55,7 +57,8 @@ fn free_cell<S: PageSpace>(alloc: Global, space: &mut S, cell: &LeafCell) -> Res
     requires kept { length cell.now.local ≤ cell.now.payload_len }
     ensures steady { Steady (S.state space.old) (S.state space.new) }
     ensures freed { IsTrue (S.state space.old).tells → OnOk result (ChainGone (S.state space.old).page_size (S.state space.old).pages (S.state space.new).pages cell.now) }
-    ensures refused { IfErr result (IsLater (S.state space.old) (S.state space.new)) }
+    ensures refused { IfErr result (FreeRefused (S.state space.old) (S.state space.new) cell.now.overflow (rest_of cell.now)) }
+    ensures changed { OnOk result (1 ≤ rest_of cell.now → IsTrue (S.state space.new).changed) }
     ensures noted { NotesChange (S.state space.old) (S.state space.new) }
 {
     let rest = cell.payload_len - cell.local.as_slice().len() as u64;

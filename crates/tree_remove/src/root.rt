@@ -5,9 +5,9 @@ ghost use Rattle.page_list.specs.Pages.{HasPage};
 ghost use Rattle.page_pool.specs.Space.{IsWritable, HasSizes, Steady};
 ghost use Rattle.page_pool.specs.Pool.{NotesChange};
 ghost use Rattle.payload_chain.specs.Chains.{HasEach};
-ghost use Rattle.tree_write.specs.Write.{Wrote, NotesSheets};
+ghost use Rattle.tree_write.specs.Write.{WriteLeaves, NotesSheets};
 ghost use Rattle.tree_join.specs.Join.{listed};
-ghost use Rattle.tree_remove.specs.Remove.{IsTakenOver, Settled, IsLater};
+ghost use Rattle.tree_remove.specs.Remove.{IsTakenOver, Settled, NotesOver, NotesSettled, StopsWriting, TakeOverRefused, SettleRefused};
 
 use crate::beside::{alone, read_cells};
 use crate::upward::Shrunk;
@@ -29,8 +29,9 @@ pub(crate) fn settle<S: PageSpace>(
     requires there { HasEach (S.state space.old).pages shrunk.lost.items }
     ensures steady { Steady (S.state space.old) (S.state space.new) }
     ensures settled { IsTrue (S.state space.old).tells → OnOk result (Settled (S.state space.old).page_size (S.state space.old).pages (S.state space.new).pages root shrunk) }
-    ensures refused { IfErr result (IsLater (S.state space.old) (S.state space.new)) }
-    ensures changed { OnOk result (NotesSheets (S.state space.old) (S.state space.new) shrunk.out.items) }
+    ensures size { OnOk result ((S.state space.new).pages.size ≡ (S.state space.old).pages.size) }
+    ensures refused { IfErr result (SettleRefused (S.state space.old) (S.state space.new) root shrunk) }
+    ensures changed { OnOk result (NotesSettled (S.state space.old).pages (S.state space.new).changed root shrunk) }
     ensures noted { NotesChange (S.state space.old) (S.state space.new) }
 {
     let Shrunk { out, lost, over } = shrunk;
@@ -65,7 +66,8 @@ fn take_over<S: PageSpace>(
     ensures size { (S.state space.new).pages.size ≡ (S.state space.old).pages.size }
     ensures taken { IsTrue (S.state space.old).tells → IfOk result (λ lost. IsTakenOver (S.state space.old).pages (S.state space.new).pages root over (listed lost)) }
     ensures there { IfOk result (λ lost. IfSome lost (HasPage (S.state space.old).pages)) }
-    ensures refused { IfErr result (IsLater (S.state space.old) (S.state space.new)) }
+    ensures refused { IfErr result (TakeOverRefused (S.state space.old) (S.state space.new) root over) }
+    ensures changed { OnOk result (NotesOver (S.state space.old).pages (S.state space.new).changed root over) }
     ensures noted { NotesChange (S.state space.old) (S.state space.new) }
 {
     let Some(child) = over else {
@@ -91,8 +93,9 @@ fn write_sheet<S: PageSpace>(alloc: Global, space: &mut S, sheet: Sheet) -> Resu
     requires writable { IsWritable (S.state space.old) }
     ensures steady { Steady (S.state space.old) (S.state space.new) }
     ensures size { (S.state space.new).pages.size ≡ (S.state space.old).pages.size }
-    ensures wrote { IsTrue (S.state space.old).tells → OnOk result (Wrote (S.state space.old).pages (S.state space.new).pages (sheet ∷ [])) }
-    ensures refused { IfErr result (IsLater (S.state space.old) (S.state space.new)) }
+    ensures leaves { WriteLeaves (S.state space.old) (S.state space.new) (sheet ∷ []) result }
+    ensures refused { IfErr result (StopsWriting (S.state space.old) (S.state space.new) (sheet ∷ [])) }
+    ensures changed { OnOk result (NotesSheets (S.state space.old) (S.state space.new) (sheet ∷ [])) }
     ensures noted { NotesChange (S.state space.old) (S.state space.new) }
 {
     write_sheets(alloc, space, &[sheet])

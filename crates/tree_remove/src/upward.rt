@@ -1,15 +1,18 @@
 //! From the leaf up to the root.
 
-ghost use Rattle.std.specs.Prelude.{◌≡◌, ◌+◌, ◌≤◌, [], ◌++◌, length, None, IfOk, IfErr, OnOk};
+ghost use Rattle.std.specs.Prelude.{◌≡◌, ◌+◌, ◌*◌, ◌≤◌, [], ◌∷◌, ◌++◌, length, None, IfOk, IfErr, OnOk};
 ghost use Rattle.std.specs.List.{AllByRecursion};
 ghost use Rattle.page_list.specs.Pages.{HasPage};
 ghost use Rattle.page_pool.specs.Space.{IsReady, IsWritable, Steady};
 ghost use Rattle.page_pool.specs.Pool.{NotesChange};
-ghost use Rattle.tree_write.specs.Climb.{MayClimb, IsPlanOf, Climbed, ClimbRefused};
+ghost use Rattle.payload_chain.specs.Chains.{StopsTaking};
+ghost use Rattle.tree_page.specs.Written.{Fits};
+ghost use Rattle.tree_plan.specs.Climb.{on};
+ghost use Rattle.tree_write.specs.Climb.{MayClimb, IsPlanOf, Climbed, spare};
 ghost use Rattle.tree_search.specs.Search.{IsStep};
 ghost use Rattle.tree_join.specs.Join.{listed};
 ghost use Rattle.tree_remove.specs.Shrink.{IsLeftPlan, ShrunkTo, ShrinkRefused};
-ghost use Rattle.tree_remove.specs.Steps.{IsOneChild, ClimbedOn, root_sheets};
+ghost use Rattle.tree_remove.specs.Steps.{IsOneChild, IsLeftOfLeaf, ClimbedOn, most_taken, root_sheets};
 
 use crate::beside::{Risen, rise};
 use page_cut::{Sheet, Sheets};
@@ -34,8 +37,9 @@ pub(crate) struct Shrunk {
 /// What is to be written and given back where this is left of a page below these levels, and the one child that the root has
 /// left, if it has one. `levels` are the interior pages from the root down to the one above the page.
 ///
-/// Pages beside those of the way are read, and then pages are taken where a page overflows. Nothing is written but what the takes
-/// write. Refused as going over a page beside is, before any change, or as `climb` is.
+/// Pages beside those of the way are read, and then pages are taken where the page above two that were joined overflows, fewer than
+/// there are levels. Nothing is written but what the takes write. Refused as going over a page beside is, before any change, or as
+/// `take_page` is.
 pub(crate) fn shrink<S: PageSpace>(
     alloc: Global,
     space: &mut S,
@@ -48,6 +52,7 @@ pub(crate) fn shrink<S: PageSpace>(
     requires there { HasPage (S.state space.old).pages number }
     requires each { AllByRecursion (IsStep (S.state space.old).pages.size (S.state space.old).pages.usable) levels.items }
     requires planned { IsLeftPlan number (S.state space.old).pages.usable left }
+    requires leaf { IsLeftOfLeaf left }
     ensures steady { Steady (S.state space.old) (S.state space.new) }
     ensures shrunk { IfOk result (ShrunkTo (S.state space.old) (S.state space.new) number left levels.items) }
     ensures refused { IfErr result (ShrinkRefused (S.state space.old) (S.state space.new) levels.items) }
@@ -115,7 +120,8 @@ fn put_behind(shrunk: &mut Shrunk, sheets: Vec<Sheet>, lost: Option<u32>) -> Res
     Ok(())
 }
 
-/// Puts behind it what a page with these parts and the pages above it are to hold.
+/// Puts behind it what a page with these parts and the pages above it are to hold. Where it has one part no page is taken, and those
+/// above stay as they are.
 fn climb_on<S: PageSpace>(
     alloc: Global,
     space: &mut S,
@@ -128,14 +134,35 @@ fn climb_on<S: PageSpace>(
     requires some { 1 ≤ (S.state space.old).pages.size }
     requires each { AllByRecursion (MayClimb (S.state space.old).pages.usable) levels.items }
     requires plan { IsPlanOf number (S.state space.old).pages.usable sheets }
+    requires fits { sheets.front.items ≡ [] → Fits sheets.last number (S.state space.old).pages.usable }
     ensures steady { Steady (S.state space.old) (S.state space.new) }
     ensures climbed { IfOk result (ClimbedOn (S.state space.old) (S.state space.new) number sheets levels.items shrunk) }
-    ensures refused { IfErr result (ClimbRefused (S.state space.old) (S.state space.new) (length levels.items + 3)) }
+    ensures refused { IfErr result (λ fault. StopsTaking (S.state space.old) (S.state space.new) (most_taken (length sheets.front.items) (length levels.items) + 2 * spare fault) fault) }
     ensures noted { NotesChange (S.state space.old) (S.state space.new) }
 {
+    let _pages = space.size();
+    if sheets.front.is_empty() {
+        let Sheets { last, .. } = sheets;
+        return Ok(stay_on(number, last, shrunk)?);
+    }
     let mut shrunk = shrunk;
     let mut more = climb(alloc, space, levels, number, sheets)?;
     shrunk.out.append(&mut more)?;
+    Ok(shrunk)
+}
+
+/// Puts behind it what stays on a page.
+fn stay_on(number: u32, cells: PageCells, shrunk: Shrunk) -> Result<Shrunk, AllocError>
+    ensures out { IfOk result (λ all. all.out.items ≡ shrunk.out.items ++ on number cells ∷ []) }
+    ensures lost { IfOk result (λ all. all.lost.items ≡ shrunk.lost.items) }
+    ensures over { IfOk result (λ all. all.over ≡ shrunk.over) }
+{
+    let mut shrunk = shrunk;
+    shrunk.out.push(Sheet {
+        number,
+        cells,
+        key: 0,
+    })?;
     Ok(shrunk)
 }
 

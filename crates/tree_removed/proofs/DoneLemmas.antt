@@ -52,8 +52,8 @@ use Rattle.tree_removed.specs.Keeps.{IsRemoval, without_shown, IsRemoved, Remove
 use Rattle.tree_removed.proofs.RemovesLemmas.{row_at_key}
 use Rattle.tree_removed.proofs.FitLemmas.{tree_above_one, counted}
 use Rattle.tree_removed.proofs.MovedLemmas.{shrunk_moves}
-use Rattle.tree_removed.proofs.GivenLemmas.{Gave, gave, chain_given}
-use Rattle.tree_removed.proofs.StepLemmas.{Searched, IsTopped, RowRemoved, removed_size, row_steps}
+use Rattle.tree_removed.proofs.GivenLemmas.{AreUnnamed, Gave, gave, chain_given}
+use Rattle.tree_removed.proofs.StepLemmas.{Searched, IsTopped, RowShrunk, RowRemoved, removed_size, row_steps}
 use Rattle.tree_removed.proofs.ToppedLemmas.{Topped, topped}
 
 -- the rows as a caller sees them
@@ -149,7 +149,7 @@ none_removed one_page page_size old root key roots before behind tree trunks d w
     }
 
 -- the pages are whole with the new tree, while some are still to be given back
-with_tree : HeaderInFront → (page_size : ℕ) (old new : Pages) (roots : List ℕ) (before behind : List Tree) (tree : Tree) (trunks : List Trunk) (key : ℤ) (taken : List ℕ)
+pub with_tree : HeaderInFront → (page_size : ℕ) (old new : Pages) (roots : List ℕ) (before behind : List Tree) (tree : Tree) (trunks : List Trunk) (key : ℤ) (taken : List ℕ)
     (out : List Sheet) (all : List ℕ) → IsWholeFor old roots (before ++ tree ∷ behind) trunks → (t : Topped page_size old new tree key taken out all)
     → ((n : ℕ) → others roots before behind trunks n + times n (pages_of tree) + times n taken ≤ 1)
     → ((n : ℕ) → times n (numbers out) ≤ times n taken + times n (pages_of tree)) → IsWholeFor new roots (before ++ t.removed.tree ∷ behind) trunks
@@ -185,16 +185,16 @@ record GivenBack (old new : Pages) (roots : List ℕ) (before : List Tree) (tree
   named : (n : ℕ) → times n (named_pages roots (before ++ tree' ∷ behind) trunks') ≡ others roots before behind trunks n + times n (pages_of tree') + times n gone
   stays : (n : ℕ) → n ≢ 1 → others roots before behind trunks n + times n (pages_of tree) + times n taken ≡ 0 → SamePage old new n
 
-abbrev Apart : List ℕ → List Tree → List Tree → Tree → List Trunk → List ℕ → Type 0
+abbrev pub Apart : List ℕ → List Tree → List Tree → Tree → List Trunk → List ℕ → Type 0
 Apart roots before behind tree trunks taken = (n : ℕ) → others roots before behind trunks n + times n (pages_of tree) + times n taken ≤ 1
 
 -- the pages that are gone are of the tree below its root, and nothing names them then
-record AreGone (roots : List ℕ) (before behind : List Tree) (tree' : Tree) (trunks : List Trunk) (gone : List ℕ) : Type 0 where
-  above : (n : ℕ) → Among gone n → 2 ≤ n
-  nowhere : (n : ℕ) → Among gone n → (others roots before behind trunks n ≡ 0) × (times n (pages_of tree') ≡ 0)
-  different : (n : ℕ) → times n gone ≤ 1
+pub record AreGone (roots : List ℕ) (before behind : List Tree) (tree' : Tree) (trunks : List Trunk) (gone : List ℕ) : Type 0 where
+  pub above : (n : ℕ) → Among gone n → 2 ≤ n
+  pub nowhere : (n : ℕ) → Among gone n → (others roots before behind trunks n ≡ 0) × (times n (pages_of tree') ≡ 0)
+  pub different : (n : ℕ) → times n gone ≤ 1
 
-are_gone : (page_size : ℕ) (old new : Pages) (roots : List ℕ) (before behind : List Tree) (tree : Tree) (trunks : List Trunk) (key : ℤ) (taken : List ℕ) (out : List Sheet)
+pub are_gone : (page_size : ℕ) (old new : Pages) (roots : List ℕ) (before behind : List Tree) (tree : Tree) (trunks : List Trunk) (key : ℤ) (taken : List ℕ) (out : List Sheet)
     (all : List ℕ) → IsWholeFor old roots (before ++ tree ∷ behind) trunks → Apart roots before behind tree trunks taken → (t : Topped page_size old new tree key taken out all)
     → AreGone roots before behind t.removed.tree trunks (chain_at key (rows_of tree) ++ all)
 are_gone page_size old new roots before behind tree trunks key taken out all whole once t = record {
@@ -204,32 +204,42 @@ are_gone page_size old new roots before behind tree trunks key taken out all who
   different = λ n. omega (arith, t.gone_few n, once n);
 }
 
-lost_given : FrontApart → (page_size : ℕ) (old new given : Pages) (roots : List ℕ) (before behind : List Tree) (tree : Tree) (trunks : List Trunk) (key : ℤ) (taken : List ℕ)
+pub lost_unnamed : (page_size : ℕ) (old new : Pages) (roots : List ℕ) (before behind : List Tree) (tree : Tree) (trunks : List Trunk) (key : ℤ) (taken : List ℕ)
+    (out : List Sheet) (all : List ℕ) → IsWholeFor old roots (before ++ tree ∷ behind) trunks → (t : Topped page_size old new tree key taken out all)
+    → AreGone roots before behind t.removed.tree trunks (chain_at key (rows_of tree) ++ all)
+    → AreUnnamed new all (named_pages roots (before ++ t.removed.tree ∷ behind) trunks)
+lost_unnamed page_size old new roots before behind tree trunks key taken out all whole t gone =
+    let tree' : Tree = t.removed.tree in
+    let chain : List ℕ = chain_at key (rows_of tree) in
+    let inside : (n : ℕ) → Among all n → Among (chain ++ all) n = λ n some. among-back n chain all some in
+    record {
+      different = record { once = λ n. omega (arith, gone.different n, times-append n chain all) };
+      each = λ n some.
+          let there = named_there old roots (before ++ tree ∷ behind) trunks whole n
+          (omega (arith, inside n some, t.gone_few n, split_named roots before behind tree trunks n)) in
+          (gone.above n (inside n some), record { least = there.least; most = omega (arith, there.most, t.size) }, t.each_good n some);
+      unnamed = λ n some named. let none = gone.nowhere n (inside n some) in omega (arith, named, none.0, none.1, split_named roots before behind tree' trunks n);
+    }
+
+pub lost_given : FrontApart → (page_size : ℕ) (old new given : Pages) (roots : List ℕ) (before behind : List Tree) (tree : Tree) (trunks : List Trunk) (key : ℤ) (taken : List ℕ)
     (out : List Sheet) (all : List ℕ) → IsWholeFor old roots (before ++ tree ∷ behind) trunks → (t : Topped page_size old new tree key taken out all)
     → AreGone roots before behind t.removed.tree trunks (chain_at key (rows_of tree) ++ all) → IsWholeFor new roots (before ++ t.removed.tree ∷ behind) trunks
     → given ≡ after_gives page_size all new → Gave page_size new given roots (before ++ t.removed.tree ∷ behind) trunks all
 lost_given front_apart page_size old new given roots before behind tree trunks key taken out all whole t gone topped_whole given_is =
     let tree' : Tree = t.removed.tree in
-    let chain : List ℕ = chain_at key (rows_of tree) in
     let G : Pages → Type 0 = λ q. Gave page_size new q roots (before ++ tree' ∷ behind) trunks all in
-    let inside : (n : ℕ) → Among all n → Among (chain ++ all) n = λ n some. among-back n chain all some in
-    subst G (sym given_is) (gave front_apart page_size new roots (before ++ tree' ∷ behind) trunks all t.sized topped_whole
-    (record { once = λ n. omega (arith, gone.different n, times-append n chain all) })
-    (λ n some.
-    let there = named_there old roots (before ++ tree ∷ behind) trunks whole n
-    (omega (arith, inside n some, t.gone_few n, split_named roots before behind tree trunks n)) in
-    (gone.above n (inside n some), record { least = there.least; most = omega (arith, there.most, t.size) }, t.each_good n some))
-    (λ n some named. let none = gone.nowhere n (inside n some) in omega (arith, named, none.0, none.1, split_named roots before behind tree' trunks n)))
+    let loose = lost_unnamed page_size old new roots before behind tree trunks key taken out all whole t gone in
+    subst G (sym given_is) (gave front_apart page_size new roots (before ++ tree' ∷ behind) trunks all t.sized topped_whole loose.different loose.each loose.unnamed)
 
 -- the chain of the row, on the pages then
-record ChainOf (given : Pages) (cell : LeafCell) (gone : List ℕ) : Type 0 where
-  chain : List ℕ
-  rest : List ℕ
-  is : IsChain given cell.overflow chain rest
-  long : length rest ≡ cell.payload_len - length cell.local
-  same : (n : ℕ) → times n chain ≡ times n gone
+pub record ChainOf (given : Pages) (cell : LeafCell) (gone : List ℕ) : Type 0 where
+  pub chain : List ℕ
+  pub rest : List ℕ
+  pub is : IsChain given cell.overflow chain rest
+  pub long : length rest ≡ cell.payload_len - length cell.local
+  pub same : (n : ℕ) → times n chain ≡ times n gone
 
-chain_of : (page_size : ℕ) (old new given : Pages) (roots : List ℕ) (before behind : List Tree) (tree : Tree) (trunks : List Trunk) (key : ℤ) (taken : List ℕ)
+pub chain_of : (page_size : ℕ) (old new given : Pages) (roots : List ℕ) (before behind : List Tree) (tree : Tree) (trunks : List Trunk) (key : ℤ) (taken : List ℕ)
     (out : List Sheet) (lost all : List ℕ) (above : Option ℕ) (cell : LeafCell) → (c : IsShrinking old roots before tree behind trunks key taken out lost above)
     → (t : Topped page_size old new tree key taken out all) → AreGone roots before behind t.removed.tree trunks (chain_at key (rows_of tree) ++ all)
     → Gave page_size new given roots (before ++ t.removed.tree ∷ behind) trunks all → cell_of key c.cells ≡ Some cell → ChainOf given cell (chain_at key (rows_of tree))
@@ -254,6 +264,25 @@ chain_of page_size old new given roots before behind tree trunks key taken out l
     (chain_stays old given (Among row.row.chain) row.row.cell.overflow row.row.chain row.has.rest stays (λ n some. some) row.has.chained, rest_length old row.row row.has) in
     record { chain = row.row.chain; rest = row.has.rest; is = both.0; long = both.1; same = chain_is }
 
+-- which nothing names
+pub chain_unnamed : (page_size : ℕ) (new given : Pages) (roots : List ℕ) (before behind : List Tree) (tree' : Tree) (trunks : List Trunk) (chain all : List ℕ) (cell : LeafCell)
+    → AreGone roots before behind tree' trunks (chain ++ all) → (first : Gave page_size new given roots (before ++ tree' ∷ behind) trunks all) → (row : ChainOf given cell chain)
+    → (n : ℕ) → Among row.chain n → ¬ (Among (named_pages roots (before ++ tree' ∷ behind) first.given.trunks') n)
+chain_unnamed page_size new given roots before behind tree' trunks chain all cell gone first row n some named =
+    let none = gone.nowhere n (omega (arith, some, row.same n, times-append n chain all)) in
+    omega (
+      arith,
+      named,
+      some,
+      none.0,
+      none.1,
+      row.same n,
+      times-append n chain all,
+      gone.different n,
+      first.given.free n,
+      split_named roots before behind tree' first.given.trunks' n,
+    )
+
 given_back : FrontApart → HeaderInFront → (page_size : ℕ) (old new given end : Pages) (roots : List ℕ) (before behind : List Tree) (tree : Tree) (trunks : List Trunk) (key : ℤ)
     (taken : List ℕ) (out : List Sheet) (lost all : List ℕ) (above : Option ℕ) (cell : LeafCell) → (c : IsShrinking old roots before tree behind trunks key taken out lost above)
     → (t : Topped page_size old new tree key taken out all) → Apart roots before behind tree trunks taken → given ≡ after_gives page_size all new → cell_of key c.cells ≡ Some cell
@@ -270,21 +299,7 @@ given_back front_apart front page_size old new given end roots before behind tre
     let in_chain : (n : ℕ) → Among row.chain n → Among (chain ++ all) n = λ n some. omega (arith, some, row.same n, times-append n chain all) in
     let second = chain_given front_apart page_size given end roots trees' first.given.trunks' row.chain row.rest cell first.sized first.given.whole row.is row.long
     (λ n some. gone.above n (in_chain n some))
-    (λ n some named.
-    let none = gone.nowhere n (in_chain n some) in
-    omega (
-      arith,
-      named,
-      some,
-      none.0,
-      none.1,
-      row.same n,
-      times-append n chain all,
-      gone.different n,
-      first.given.free n,
-      split_named roots before behind tree' first.given.trunks' n,
-    ))
-    give in
+    (chain_unnamed page_size new given roots before behind tree' trunks chain all cell gone first row) give in
     record {
       trunks' = second.trunks';
       whole = second.whole;
@@ -307,12 +322,12 @@ given_back front_apart front page_size old new given end roots before behind tre
     }
 
 -- what is shrunk, on the pages with those that were taken
-shrinking : OnePage → (page_size : ℕ) (old grown new : Pages) (root : ℕ) (key : ℤ) (roots : List ℕ) (before behind : List Tree)
+pub shrinking : OnePage → (page_size : ℕ) (old grown : Pages) (root : ℕ) (key : ℤ) (roots : List ℕ) (before behind : List Tree)
     (tree : Tree) (trunks free : List Trunk) → (d : Searched page_size old root key) → IsWholeFor old roots (before ++ tree ∷ behind) trunks → root_of tree ≡ root
-    → (r : RowRemoved page_size old new root key d.levels d.leaf d.cells) → IsWholeFor grown roots (before ++ tree ∷ behind) free → grown.usable ≡ old.usable
+    → (r : RowShrunk page_size old key d.levels d.leaf d.cells) → IsWholeFor grown roots (before ++ tree ∷ behind) free → grown.usable ≡ old.usable
     → Apart roots before behind tree free (taken_numbers page_size r.count old) → ((n : ℕ) → Among (taken_numbers page_size r.count old) n → 2 ≤ n)
     → (c : IsShrinking grown roots before tree behind free key (taken_numbers page_size r.count old) r.out r.lost r.over) × (cell_of key c.cells ≡ Some r.cell)
-shrinking one_page page_size old grown new root key roots before behind tree trunks free d whole rooted r grown_whole used once least =
+shrinking one_page page_size old grown root key roots before behind tree trunks free d whole rooted r grown_whole used once least =
     let taken : List ℕ = taken_numbers page_size r.count old in
     let way = way_of one_page page_size old root key roots before behind tree trunks d whole rooted in
     let one = whole_one old roots before behind tree whole.each_tree in
@@ -372,20 +387,21 @@ row_removed : FrontApart → HeaderInFront → OnePage → PageFits → (page_si
     (tree : Tree) (trunks : List Trunk) → (d : Searched page_size old root key) → IsWholeFor old roots (before ++ tree ∷ behind) trunks → root_of tree ≡ root
     → RowRemoved page_size old new root key d.levels d.leaf d.cells → IsRemoved old new roots before tree behind trunks key true
 row_removed front_apart front one_page page_fits page_size old new root key roots before behind tree trunks d whole rooted r =
+    let w = r.way in
     let trees : List Tree = before ++ tree ∷ behind in
-    let taken : List ℕ = taken_numbers page_size r.count old in
+    let taken : List ℕ = taken_numbers page_size w.count old in
     let unused : List ℕ = chain_numbers page_size old [] in
     let none_used : chain_count old [] ≡ 0 = none_needed old.usable d.sized.least in
-    let grown : Pages = after_takes page_size r.count old in
-    let free : List Trunk = take_each r.count (take_each (chain_count old []) trunks) in
-    let p = prepared front_apart page_size r.count old old [] 0 roots before behind tree trunks d.size_of_page d.spare d.sized d.sized whole (inl (refl, refl, refl)) r.few in
+    let grown : Pages = after_takes page_size w.count old in
+    let free : List Trunk = take_each w.count (take_each (chain_count old []) trunks) in
+    let p = prepared front_apart page_size w.count old old [] 0 roots before behind tree trunks d.size_of_page d.spare d.sized d.sized whole (inl (refl, refl, refl)) w.few in
     let once : Apart roots before behind tree free taken = λ n. omega (arith, p.once n) in
-    let c = shrinking one_page page_size old grown new root key roots before behind tree trunks free d whole rooted r p.whole p.used once p.least in
-    let k = counted grown roots before behind tree free key taken r.out r.lost r.over c.0 in
-    let T : ℕ → Type 0 = λ m. IsTopped page_size r.written r.topped m r.lost r.over r.all in
-    let t = topped one_page page_fits page_size grown r.written r.topped roots before behind tree free key taken r.out r.lost r.all r.over c.0 r.write
+    let c = shrinking one_page page_size old grown root key roots before behind tree trunks free d whole rooted w p.whole p.used once p.least in
+    let k = counted grown roots before behind tree free key taken w.out w.lost w.over c.0 in
+    let T : ℕ → Type 0 = λ m. IsTopped page_size r.written r.topped m w.lost w.over r.all in
+    let t = topped one_page page_fits page_size grown r.written r.topped roots before behind tree free key taken w.out w.lost r.all w.over c.0 r.write
     (λ n some. p.there n (among-back n unused taken some)) (subst T (sym rooted) r.top) in
-    let g = given_back front_apart front page_size grown r.topped r.given new roots before behind tree free key taken r.out r.lost r.all r.over r.cell c.0 t once r.given_is c.1 r.give in
+    let g = given_back front_apart front page_size grown r.topped r.given new roots before behind tree free key taken w.out w.lost r.all w.over w.cell c.0 t once r.given_is c.1 r.give in
     let tree' : Tree = t.removed.tree in
     let trees' : List Tree = before ++ tree' ∷ behind in
     let gone : List ℕ = chain_at key (rows_of tree) ++ r.all in
@@ -394,7 +410,7 @@ row_removed front_apart front one_page page_fits page_size old new root key root
     (times n (named_pages roots trees' g.trunks')) (t.removed.named n) (gone_within n) (g.named n) in
     let added : length taken ≤ length (pages_of tree') = no_longer new taken (pages_of tree') (λ n. omega (arith, t.removed.named n, gone_within n))
     (λ n some. named_there new roots trees' g.trunks' g.whole n (omega (arith, some, g.named n))) in
-    let full : (grown.size ≡ old.size) ⊎ (grown.size ≡ r.count + use_of roots trees + length (missing_in (named_pages roots trees trunks) old.size)) = elim p.empty [
+    let full : (grown.size ≡ old.size) ⊎ (grown.size ≡ w.count + use_of roots trees + length (missing_in (named_pages roots trees trunks) old.size)) = elim p.empty [
       | inl none ↦ inr (omega (arith, p.counted, none_used, ap (λ (l : List Trunk). length (free_pages l)) none, pages_add_up old roots trees trunks whole))
       | inr same ↦ inl same
     ] in
@@ -416,8 +432,8 @@ row_removed front_apart front one_page page_fits page_size old new root key root
           let has_it : HasPage grown n = record { least = there.least; most = omega (arith, there.most, g.size) } in
           p.were_new n has_it ((counts n).1 (omega (arith, not_named)) (ap (λ count. times n (taken_numbers page_size count old)) none_used));
       no_fewer = omega (arith, g.size, p.no_fewer);
-      bound = at_most new.size old.size (length (missing_in (named_pages roots trees trunks) old.size)) (use_of roots trees) (use_of roots trees') r.count grown.size g.size full
-          (omega (arith, added, as_many_taken page_size r.count old, use_least roots before behind tree'));
+      bound = at_most new.size old.size (length (missing_in (named_pages roots trees trunks) old.size)) (use_of roots trees) (use_of roots trees') w.count grown.size g.size full
+          (omega (arith, added, as_many_taken page_size w.count old, use_least roots before behind tree'));
     }
 
 pub remove_keeps_whole : FrontApart → HeaderInFront → OnePage → PageFits → RemoveKeepsWhole

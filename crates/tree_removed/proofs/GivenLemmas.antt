@@ -17,6 +17,12 @@ use Rattle.tree_put.specs.Keeps.{IsGiven}
 use Rattle.tree_put.proofs.PreparedLemmas.{none_needed}
 use Rattle.tree_put.proofs.WrittenLemmas.{Given}
 
+-- different pages behind page 1, there and good, that nothing names
+pub record AreUnnamed (pages : Pages) (numbers named : List ℕ) : Type 0 where
+  pub different : AllDifferent numbers
+  pub each : (n : ℕ) → Among numbers n → (2 ≤ n) × HasPage pages n × IsGood pages n
+  pub unnamed : (n : ℕ) → Among numbers n → ¬ (Among named n)
+
 pub record Gave (page_size : ℕ) (old new : Pages) (roots : List ℕ) (trees : List Tree) (trunks : List Trunk) (gone : List ℕ) : Type 0 where
   pub given : Given old new roots trees trunks gone
   pub sized : AreSized page_size new

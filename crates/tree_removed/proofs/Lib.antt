@@ -10,3 +10,5 @@ pub mod GivenLemmas
 pub mod StepLemmas
 pub mod ToppedLemmas
 pub mod DoneLemmas
+pub mod LargeLemmas
+pub mod StopLemmas

@@ -29,7 +29,7 @@ use Rattle.tree_removed.proofs.ShrinkLemmas.{up_number}
 
 -- the pages of a tree are there and good
 
-in_one : (P : ℕ → Type 0) (page : ℕ) → P page → (n : ℕ) → Among (page ∷ []) n → P n
+pub in_one : (P : ℕ → Type 0) (page : ℕ) → P page → (n : ℕ) → Among (page ∷ []) n → P n
 in_one P page holds n some = elim (same_or_other n page) [
   | inl same ↦ subst P same.0 holds
   | inr other ↦ absurd (omega (arith, other.1, some))
@@ -65,7 +65,7 @@ same_content one_page old new tree cells was is has =
     let P : PageCells → Type 0 = HasCells new (root_of tree) in
     subst P (sym (same_cells one_page old (root_of tree) cells (content_of tree) has (has_content old tree was))) (has_content new tree is)
 
-other_held : (pages : Pages) (low high : ℤ) (depth : ℕ) (child : Tree) (step : Beside) (p : Paired child step) → Stands pages low high depth child step → Holds pages p.other
+pub other_held : (pages : Pages) (low high : ℤ) (depth : ℕ) (child : Tree) (step : Beside) (p : Paired child step) → Stands pages low high depth child step → Holds pages p.other
 other_held pages low high depth child step p stands =
     let R : Run → Type 0 = IsRun pages low high depth in
     let H : Tree → Type 0 = Holds pages in

@@ -46,8 +46,8 @@ IsTopped page_size old new root lost (Some child) all =
     × ((Fits cells root old.usable × AreWritten page_size old new (on root cells ∷ []) × (all ≡ lost ++ child ∷ []))
     ⊎ (¬ (Fits cells root old.usable) × AreWritten page_size old new (on root (Interior [] child) ∷ []) × (all ≡ lost)))
 
--- there was a row: its cell, what is left of the way, the pages taken, what was written, the root, the pages given back, and the chain of the row
-pub record RowRemoved (page_size : ℕ) (old new : Pages) (root : ℕ) (key : ℤ) (levels : List Level) (leaf : ℕ) (cells : List LeafCell) : Type 0 where
+-- there was a row: its cell, what is left of the way, and the pages taken
+pub record RowShrunk (page_size : ℕ) (old : Pages) (key : ℤ) (levels : List Level) (leaf : ℕ) (cells : List LeafCell) : Type 0 where
   pub cell : LeafCell
   pub has : cell_of key cells ≡ Some cell
   pub left : Left
@@ -58,14 +58,18 @@ pub record RowRemoved (page_size : ℕ) (old new : Pages) (root : ℕ) (key : �
   pub lost : List ℕ
   pub over : Option ℕ
   pub shrunk : AreShrunk old leaf left (reverse levels) (taken_numbers page_size count old) out lost over
+
+-- then what was written, the root, the pages given back, and the chain of the row
+pub record RowRemoved (page_size : ℕ) (old new : Pages) (root : ℕ) (key : ℤ) (levels : List Level) (leaf : ℕ) (cells : List LeafCell) : Type 0 where
+  pub way : RowShrunk page_size old key levels leaf cells
   pub written : Pages
-  pub write : AreWritten page_size (after_takes page_size count old) written out
+  pub write : AreWritten page_size (after_takes page_size way.count old) written way.out
   pub topped : Pages
   pub all : List ℕ
-  pub top : IsTopped page_size written topped root lost over all
+  pub top : IsTopped page_size written topped root way.lost way.over all
   pub given : Pages
   pub given_is : given ≡ after_gives page_size all topped
-  pub give : IsGiven page_size given new (Some cell)
+  pub give : IsGiven page_size given new (Some way.cell)
 
 -- sheets that were written
 
@@ -74,7 +78,7 @@ pub each_written : (old new : Pages) (out : List Sheet) → AllByRecursion (λ s
 each_written old new [] all = tt
 each_written old new (s ∷ more) all = (λ there fits. all.0 (record { there = there; fits = fits }), each_written old new more all.1)
 
-are_written : (page_size : ℕ) (old new : Pages) (out : List Sheet) → AreSized page_size old → Wrote old new out → AreWritten page_size old new out
+pub are_written : (page_size : ℕ) (old new : Pages) (out : List Sheet) → AreSized page_size old → Wrote old new out → AreWritten page_size old new out
 are_written page_size old new out sized wrote = record {
   sized = record {
     least = omega (arith, sized.least, wrote.only.used);
@@ -93,7 +97,7 @@ are_written page_size old new out sized wrote = record {
 
 -- the root takes over its one child
 
-is_topped : (page_size : ℕ) (old new : Pages) (root : ℕ) (lost : List ℕ) (over : Option ℕ) (also : List ℕ) → AreSized page_size old → IsTakenOver old new root over also
+pub is_topped : (page_size : ℕ) (old new : Pages) (root : ℕ) (lost : List ℕ) (over : Option ℕ) (also : List ℕ) → AreSized page_size old → IsTakenOver old new root over also
     → IsTopped page_size old new root lost over (lost ++ also)
 is_topped page_size old new root lost None also sized (same, none) = (same, ap (λ (l : List ℕ). lost ++ l) none ∙ append-nil lost)
 is_topped page_size old new root lost (Some child) also sized (cells, has, inl (fits, gone, wrote)) =
@@ -132,16 +136,14 @@ removed_size page_size old new changed root key r =
       gives_size page_size r.freed.numbers r.given,
       ap size r.settled.gives.are,
       gives_size page_size (r.shrunk.lost.items ++ r.settled.also) r.settled.topped,
-      over_size r.settled.written r.settled.topped root r.shrunk.over r.settled.also r.settled.over,
-      r.settled.wrote.only.only.size,
+      over_size r.settled.rewritten.written r.settled.topped root r.shrunk.over r.settled.also r.settled.rewritten.over,
+      r.settled.rewritten.wrote.only.only.size,
     )
 
-pub row_steps : (page_size : ℕ) (old new : Pages) (changed : Bool) (root : ℕ) (key : ℤ) → (r : Removed page_size old new changed root key) → AreSized page_size (after_takes page_size r.count old)
-    → (after_takes page_size r.count old).size * page_size ≤ greatest_length
-    → RowRemoved page_size old new root key r.descent.levels.items r.descent.leaf r.descent.cells
-row_steps page_size old new changed root key r sized few =
+abbrev pub row_shrunk : (page_size : ℕ) (old new : Pages) (changed : Bool) (root : ℕ) (key : ℤ) → (r : Removed page_size old new changed root key)
+    → (after_takes page_size r.count old).size * page_size ≤ greatest_length → RowShrunk page_size old key r.descent.levels.items r.descent.leaf r.descent.cells
+row_shrunk page_size old new changed root key r few =
     let L : List LeafCell → Type 0 = λ l. IsLeafLeft r.descent.leaf old.usable l r.left in
-    let write = are_written page_size (after_takes page_size r.count old) r.settled.written r.shrunk.out.items sized r.settled.wrote in
     record {
       cell = r.taken.cell;
       has = r.taken_is.cell;
@@ -153,11 +155,20 @@ row_steps page_size old new changed root key r sized few =
       lost = r.shrunk.lost.items;
       over = r.shrunk.over;
       shrunk = r.are;
-      written = r.settled.written;
+    }
+
+pub row_steps : (page_size : ℕ) (old new : Pages) (changed : Bool) (root : ℕ) (key : ℤ) → (r : Removed page_size old new changed root key) → AreSized page_size (after_takes page_size r.count old)
+    → (after_takes page_size r.count old).size * page_size ≤ greatest_length
+    → RowRemoved page_size old new root key r.descent.levels.items r.descent.leaf r.descent.cells
+row_steps page_size old new changed root key r sized few =
+    let write = are_written page_size (after_takes page_size r.count old) r.settled.rewritten.written r.shrunk.out.items sized r.settled.rewritten.wrote in
+    record {
+      way = row_shrunk page_size old new changed root key r few;
+      written = r.settled.rewritten.written;
       write = write;
       topped = r.settled.topped;
       all = r.shrunk.lost.items ++ r.settled.also;
-      top = is_topped page_size r.settled.written r.settled.topped root r.shrunk.lost.items r.shrunk.over r.settled.also write.sized r.settled.over;
+      top = is_topped page_size r.settled.rewritten.written r.settled.topped root r.shrunk.lost.items r.shrunk.over r.settled.also write.sized r.settled.rewritten.over;
       given = r.given;
       given_is = r.settled.gives.are;
       give = inr (record { given = r.freed.numbers; bytes = r.freed.payload; chain = r.freed.chain; long = r.freed.long; pages_are = r.freed.gives.are });

@@ -44,7 +44,7 @@ on_pages : (old new : Pages) (tree : Tree) (taken : List ℕ) (out : List Sheet)
 on_pages old new tree taken [] there places each = tt
 on_pages old new tree taken (s ∷ more) there places each = (each.0 (there s.number places.0.among) places.0.fits, on_pages old new tree taken more there places.1 each.1)
 
-written_over : OnePage → (page_size : ℕ) (old new : Pages) (roots : List ℕ) (before behind : List Tree) (tree : Tree) (trunks : List Trunk) (key : ℤ) (taken : List ℕ) (out : List Sheet)
+pub written_over : OnePage → (page_size : ℕ) (old new : Pages) (roots : List ℕ) (before behind : List Tree) (tree : Tree) (trunks : List Trunk) (key : ℤ) (taken : List ℕ) (out : List Sheet)
     (lost : List ℕ) (above : Option ℕ) → IsShrinking old roots before tree behind trunks key taken out lost above → AreWritten page_size old new out
     → ((n : ℕ) → Among taken n → HasPage old n) → IsOver new key tree taken (chain_at key (rows_of tree) ++ lost) above
 written_over one_page page_size old new roots before behind tree trunks key taken out lost above c written there =

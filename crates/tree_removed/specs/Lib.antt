@@ -1,2 +1,3 @@
 pub mod Removes
 pub mod Keeps
+pub mod Large

@@ -2,6 +2,7 @@
 
 ghost use Rattle.tree_removed.specs.Removes.{ShrinkRemoves, ShrinkFits};
 ghost use Rattle.tree_removed.specs.Keeps.{RemoveKeepsWhole};
+ghost use Rattle.tree_removed.specs.Large.{RemoveMayBeLarge};
 
 use db_format::header_in_front;
 use tree_page::{front_apart, one_page, page_fits};
@@ -28,4 +29,13 @@ pub fn remove_keeps_whole()
     header_in_front();
     one_page();
     page_fits();
+}
+
+/// Where a removal needs a page and none is free, one page more is within what nothing names, what is in use and what the trees
+/// may need without the row.
+pub fn remove_may_be_large()
+    ensures { RemoveMayBeLarge }
+{
+    front_apart();
+    one_page();
 }

@@ -3,4 +3,4 @@
 
 mod laws;
 
-pub use laws::{remove_keeps_whole, shrink_fits, shrink_removes};
+pub use laws::{remove_keeps_whole, remove_may_be_large, shrink_fits, shrink_removes};

@@ -4,7 +4,7 @@ use Rattle.std.proofs.lemmas.List.{nil_from_length}
 use Rattle.std.proofs.lemmas.Result.{err_from_is_err_and, IfOk-weaker, IfErr-weaker}
 use Rattle.payload_chain.proofs.StateLemmas.{steady-same, steady-on, stays-same, stays-on}
 use Rattle.tree_write.specs.Climb.{MayClimb}
-use Rattle.tree_remove.proofs.ShrinkLemmas.{shrinks-begin, shrinks-on, shrinks-end, shrinks-top, shrinks-climb, shrink-meets, shrink-stops, may_climb, some_there, next_planned, step_now, level_there, popped}
+use Rattle.tree_remove.proofs.ShrinkLemmas.{shrinks-begin, shrinks-on, shrinks-end, shrinks-top, shrinks-climb, shrink-meets, shrink-stops, climbs-begin, climbs-on, along-within, next_few, may_climb, some_there, next_planned, step_now, level_there, popped}
 use Rattle.tree_remove.proofs.upward.shrink.Goals as goal
 
 pub loop-child-init : goal.loop-child-init
@@ -17,6 +17,7 @@ loop-child-init g c =
       each = c.requires.each;
       there = c.requires.there;
       planned = c.requires.planned;
+      few = climbs-begin c.args.levels.items c.args.left c.requires.leaf;
       along = shrinks-begin old c.args.number c.args.left c.args.levels.items s.result s.ensures.out s.ensures.lost s.ensures.over;
     }
 
@@ -35,7 +36,7 @@ returns-in-Err-clause-shrunk g c =
 pub returns-in-Err-clause-refused : goal.returns-in-Err-clause-refused
 returns-in-Err-clause-refused g c =
     let i = c.loop-child.invariant in
-    IfErr-weaker c.climb_on.result _ _ (λ fault stops. shrink-stops (g.S.PageSpace.state c.climb_on.new.space) fault i.along i.steady i.stays stops) c.climb_on.ensures.refused
+    IfErr-weaker c.climb_on.result _ _ (λ fault stops. shrink-stops (g.S.PageSpace.state c.climb_on.new.space) c.in-Err.sheets fault i.along i.steady i.stays i.few c.in-Err.ensures stops) c.climb_on.ensures.refused
 
 pub returns-in_default-clause-shrunk : goal.returns-in_default-clause-shrunk
 returns-in_default-clause-shrunk g c =
@@ -87,6 +88,8 @@ loop-child-preserved g c =
       each = all.0;
       there = level_there old.pages c.in-Some.level all.1;
       planned = next_planned old now c.in-Some.level.number risen.next c.in-Some-next.next i.steady e.planned c.in-Some-next.is;
+      few = climbs-on c.args.levels.items c.loop-child.levels.items c.pop.new.self.items c.in-Some.level c.in-Ok.child c.loop-child.left c.in-Some-next.next i.few c.in-Some.ensures.items
+          (along-within i.along) c.in-Ok.ensures (next_few c.in-Ok.child risen.next c.in-Some-next.next e.few c.in-Some-next.is);
       along = shrinks-on c.pop.new.self.items c.in-Some.level c.in-Ok.child risen c.in-Some-next.next c.put_behind.new.shrunk i.along i.steady i.stays c.in-Some.ensures.items c.in-Ok.ensures e.risen
           (some_there old now risen.lost i.stays e.lost) c.in-Some-next.is b.out b.lost b.over;
     }

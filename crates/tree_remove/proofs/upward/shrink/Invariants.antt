@@ -4,7 +4,7 @@ use Rattle.page_list.specs.Pages.{HasPage}
 use Rattle.page_pool.specs.Space.{Steady, Stays}
 use Rattle.tree_search.specs.Search.{IsStep}
 use Rattle.tree_remove.specs.Shrink.{IsLeftPlan}
-use Rattle.tree_remove.proofs.ShrinkLemmas.{ShrinksAlong}
+use Rattle.tree_remove.proofs.ShrinkLemmas.{ShrinksAlong, ClimbsFew}
 use Rattle.tree_remove.proofs.upward.shrink.Given as goal
 
 abbrev pub invariant-loop-child : goal.invariant-loop-child
@@ -17,6 +17,7 @@ invariant-loop-child g l =
       each : AllByRecursion (IsStep old.pages.size old.pages.usable) l.levels.items;
       there : HasPage old.pages l.number;
       planned : IsLeftPlan l.number old.pages.usable l.left;
+      few : ClimbsFew l.initial.levels.items l.levels.items l.left;
       along : ShrinksAlong old l.initial.number l.initial.left l.initial.levels.items l.levels.items l.number l.left l.shrunk;
     }
 

@@ -1,0 +1,10 @@
+pub mod RowLemmas
+pub mod PageLemmas
+pub mod StateLemmas
+pub mod EffectLemmas
+pub mod Lifts
+pub mod SealLemmas
+pub mod CallLemmas
+pub mod SumLemmas
+pub mod ReadLemmas
+pub mod PartLemmas

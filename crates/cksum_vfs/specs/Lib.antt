@@ -1,0 +1,4 @@
+pub mod Summed
+pub mod Page
+pub mod Steps
+pub mod Laws

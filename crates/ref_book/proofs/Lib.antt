@@ -1,0 +1,4 @@
+pub mod Maps
+pub mod Named
+pub mod Sizes
+pub mod Becomes

@@ -1,0 +1,3 @@
+pub mod Codes
+pub mod Shelf
+pub mod Steps

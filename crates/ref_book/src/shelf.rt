@@ -1,0 +1,380 @@
+//! The shelf.
+
+ghost use Rattle.std.specs.Prelude.{◌≡◌, T, ◌-◌, max, [], ◌++◌, pos, map, filter, not, IfOk, OnOk};
+ghost use Rattle.std.specs.List.{list_any};
+ghost use Rattle.std.specs.Option.{option_copied};
+ghost use Rattle.std.specs.Ordering.{nat_cmp, int_cmp};
+ghost use Rattle.std.specs.Str.{str_eq_ignore_ascii_case};
+ghost use Rattle.std.specs.Cmp.Lexicographic.{slice_cmp};
+ghost use Rattle.std.specs.FinMap as map;
+ghost use Rattle.std.specs.FinMap.{is_sorted, from_sorted};
+ghost use Rattle.shell_model.specs.Cases.{row_reply};
+ghost use Rattle.db_format.specs.declared.table_list.TableEntry.TheVariants.{Plain, Foreign};
+
+use crate::names::{is_foreign_name, is_table_name, is_taken_name};
+use crate::row::KeptRow;
+use crate::schema::{entry_row, next_entry};
+use crate::sorted::{find, sorted, with_entry, without_entry};
+use crate::table::KeptTable;
+use crate::twin::{Twin, twins};
+use byte_base::{ByteLists, Bytes};
+use db_format::{Record, TableEntry, TableList};
+use ref_shell::Shelf;
+use shell_lang::{Reply, ScanEnd};
+use std::alloc::{AllocError, Global};
+
+/// Keeps a book in sorted lists.
+#[derive(Debug, Drop)]
+pub struct MapShelf {
+    alloc: Global,
+    /// The plain tables in the order of their names.
+    tables: Vec<(Bytes, KeptTable)>,
+    /// The names of the other tables.
+    foreign: ByteLists,
+    /// The rows of the schema in the order of their rowids.
+    schema: Vec<(i64, KeptRow)>,
+    /// The pages that nothing names.
+    unnamed: Vec<(u32, Bytes)>,
+    numbers: Numbers,
+    ghost tables_rise: { T (is_sorted (slice_cmp nat_cmp) tables.items) },
+    ghost schema_rises: { T (is_sorted int_cmp schema.items) },
+}
+
+/// The numbers of a book.
+#[derive(Clone, Copy, Debug)]
+struct Numbers {
+    counter: u32,
+    pages: usize,
+    free: usize,
+    page: u32,
+    usable: u32,
+}
+
+impl MapShelf {
+    ghost use Rattle.book_model.specs.Book.{empty_book, table_at, next_entry, foreign_names};
+    ghost use Rattle.ref_book.specs.Shelf.{book_of};
+    ghost use Rattle.ref_book.specs.Steps.{emptied};
+
+    /// A book of no pages.
+    pub fn new(alloc: Global, page: u32, usable: u32) -> MapShelf
+        ensures { book_of result ≡ empty_book page usable }
+    {
+        MapShelf {
+            alloc,
+            tables: Vec::new(alloc),
+            foreign: ByteLists::from_vec(Vec::new(alloc)),
+            schema: Vec::new(alloc),
+            unnamed: Vec::new(alloc),
+            numbers: Numbers {
+                counter: 0,
+                pages: 0,
+                free: 0,
+                page,
+                usable,
+            },
+        }
+    }
+
+    /// The table of a name, where there is one.
+    fn table(&self, name: &Bytes) -> Option<&KeptTable>
+        ensures { option_copied result ≡ map.get (book_of self.now).tables name.now }
+    {
+        find(&self.tables, name)
+    }
+
+    /// The same with other tables and another schema: every page that something may name is free.
+    fn changed(
+        &self,
+        tables: Vec<(Bytes, KeptTable)>,
+        schema: Vec<(i64, KeptRow)>,
+    ) -> Result<MapShelf, AllocError>
+        requires tables { T (is_sorted (slice_cmp nat_cmp) tables.items) }
+        requires schema { T (is_sorted int_cmp schema.items) }
+        ensures { IfOk result (λ shelf. book_of shelf ≡ emptied (record (book_of self.now) { tables = from_sorted tables.items; schema = from_sorted schema.items })) }
+    {
+        let alloc = self.alloc;
+        let foreign = self.foreign.twin(alloc)?;
+        let unnamed = twins(alloc, &self.unnamed)?;
+        let numbers = self.numbers.emptied(unnamed.len());
+        Ok(MapShelf {
+            alloc,
+            tables,
+            foreign,
+            schema,
+            unnamed,
+            numbers,
+        })
+    }
+
+    /// The table of a name, or this one, which has nothing, where there is none.
+    fn read<'a>(&'a self, name: &Bytes, none: &'a KeptTable) -> &'a KeptTable
+        requires { none.now ≡ record { columns = []; entry = pos 0; rows = map.empty } }
+        ensures { result.now ≡ table_at (book_of self.now) name.now }
+    {
+        match self.table(name) {
+            Some(table) => table,
+            None => none,
+        }
+    }
+
+    /// The rowid of a new row of the schema.
+    fn next(&self) -> i64
+        ensures { result ≡ next_entry (book_of self.now) }
+    {
+        next_entry(&self.schema)
+    }
+
+    /// The tables with one more, or with another one of a name.
+    fn tables_with(
+        &self,
+        name: &Bytes,
+        table: KeptTable,
+    ) -> Result<Vec<(Bytes, KeptTable)>, AllocError>
+        ensures rise { IfOk result (λ all. T (is_sorted (slice_cmp nat_cmp) all.items)) }
+        ensures are { IfOk result (λ all. from_sorted all.items ≡ map.insert (book_of self.now).tables name.now table) }
+    {
+        let name = name.twin(self.alloc)?;
+        let all = with_entry(self.alloc, &self.tables, name, table)?;
+        Ok(all)
+    }
+
+    /// The schema with one more row.
+    fn schema_with(&self, at: i64, row: KeptRow) -> Result<Vec<(i64, KeptRow)>, AllocError>
+        ensures rise { IfOk result (λ all. T (is_sorted int_cmp all.items)) }
+        ensures are { IfOk result (λ all. from_sorted all.items ≡ map.insert (book_of self.now).schema at row) }
+    {
+        let all = with_entry(self.alloc, &self.schema, at, row)?;
+        Ok(all)
+    }
+
+    /// The tables without that of a name.
+    fn tables_without(&self, name: &Bytes) -> Result<Vec<(Bytes, KeptTable)>, AllocError>
+        ensures rise { IfOk result (λ all. T (is_sorted (slice_cmp nat_cmp) all.items)) }
+        ensures are { IfOk result (λ all. from_sorted all.items ≡ map.remove (book_of self.now).tables name.now) }
+    {
+        let name = name.twin(self.alloc)?;
+        let all = without_entry(self.alloc, &self.tables, name)?;
+        Ok(all)
+    }
+
+    /// The schema without a row.
+    fn schema_without(&self, at: i64) -> Result<Vec<(i64, KeptRow)>, AllocError>
+        ensures rise { IfOk result (λ all. T (is_sorted int_cmp all.items)) }
+        ensures are { IfOk result (λ all. from_sorted all.items ≡ map.remove (book_of self.now).schema at) }
+    {
+        let all = without_entry(self.alloc, &self.schema, at)?;
+        Ok(all)
+    }
+
+    /// The plain tables and then the others, each with its name.
+    fn listed(&self) -> Result<Vec<(Bytes, TableEntry)>, AllocError>
+        ensures { IfOk result (λ all. all.items ≡ map (λ table. (table.0, Plain (record { name = table.0; columns = table.1.columns }))) (map.entries (book_of self.now).tables) ++ map (λ name. (name, Foreign name)) (foreign_names (book_of self.now))) }
+    {
+        let mut all = Vec::new(self.alloc);
+        push_plain(self.alloc, &mut all, &self.tables)?;
+        push_foreign(self.alloc, &mut all, self.foreign.as_slice(), &self.tables)?;
+        Ok(all)
+    }
+
+    /// The same with another table of a name.
+    fn with_kept(&self, name: &Bytes, table: KeptTable) -> Result<MapShelf, AllocError>
+        ensures { IfOk result (λ shelf. book_of shelf ≡ emptied (record (book_of self.now) { tables = map.insert (book_of self.now).tables name.now table })) }
+    {
+        let tables = self.tables_with(name, table)?;
+        let schema = twins(self.alloc, &self.schema)?;
+        self.changed(tables, schema)
+    }
+}
+
+impl Numbers {
+    /// Every page is free but those that nothing names.
+    fn emptied(self, unnamed: usize) -> Numbers
+        ensures { result ≡ record self { pages = max self.pages unnamed; free = max self.pages unnamed - unnamed } }
+    {
+        let pages = self.pages.max(unnamed);
+        Numbers {
+            counter: self.counter,
+            pages,
+            free: pages - unnamed,
+            page: self.page,
+            usable: self.usable,
+        }
+    }
+}
+
+/// An empty table without columns.
+fn no_table(alloc: Global) -> KeptTable
+    ensures { result ≡ record { columns = []; entry = pos 0; rows = map.empty } }
+{
+    KeptTable::empty(alloc, ByteLists::from_vec(Vec::new(alloc)), 0)
+}
+
+/// The reply that gives a row of a table, or says that there is none.
+fn row_reply(alloc: Global, table: &KeptTable, rowid: &i64) -> Result<Reply, AllocError>
+    ensures { IfOk result (λ said. said ≡ row_reply rowid.now (map.get table.now.rows rowid.now)) }
+{
+    match table.row(rowid) {
+        Some(row) => {
+            let values = row.record(alloc)?;
+            Ok(Reply::Row {
+                rowid: *rowid,
+                values,
+            })
+        }
+        None => Ok(Reply::Nothing),
+    }
+}
+
+/// Puts the plain tables behind others, each with its name.
+fn push_plain(
+    alloc: Global,
+    all: &mut Vec<(Bytes, TableEntry)>,
+    tables: &[(Bytes, KeptTable)],
+) -> Result<(), AllocError>
+    ensures { OnOk result (all.new.items ≡ all.old.items ++ map (λ table. (table.0, Plain (record { name = table.0; columns = table.1.columns }))) tables.now) }
+{
+    let [first, more @ ..] = tables else {
+        return Ok(());
+    };
+    let entry = TableEntry::Plain(first.1.create(alloc, &first.0)?);
+    all.push((first.0.twin(alloc)?, entry))?;
+    push_plain(alloc, all, more)
+}
+
+/// Puts the names that no plain table has behind others, each with itself.
+fn push_foreign(
+    alloc: Global,
+    all: &mut Vec<(Bytes, TableEntry)>,
+    foreign: &[Bytes],
+    tables: &[(Bytes, KeptTable)],
+) -> Result<(), AllocError>
+    ensures { OnOk result (all.new.items ≡ all.old.items ++ map (λ name. (name, Foreign name)) (filter (λ name. not (list_any (str_eq_ignore_ascii_case name) (map (λ e. e.0) tables.now))) foreign.now)) }
+{
+    let [first, more @ ..] = foreign else {
+        return Ok(());
+    };
+    if !is_table_name(tables, first.as_slice()) {
+        let entry = TableEntry::Foreign(first.twin(alloc)?);
+        all.push((first.twin(alloc)?, entry))?;
+    }
+    push_foreign(alloc, all, more, tables)
+}
+
+/// Puts the values of entries behind others.
+fn push_values(
+    alloc: Global,
+    all: &mut TableList,
+    items: &[(Bytes, TableEntry)],
+) -> Result<(), AllocError>
+    ensures { OnOk result (all.new ≡ all.old ++ map (λ e. e.1) items.now) }
+{
+    let [first, more @ ..] = items else {
+        return Ok(());
+    };
+    all.push(first.1.twin(alloc)?)?;
+    push_values(alloc, all, more)
+}
+
+impl Shelf for MapShelf {
+    ghost use Rattle.ref_book.specs.Shelf.{book_of};
+
+    ghost book = { book_of };
+
+    fn is_plain(&self, name: &Bytes) -> bool {
+        self.table(name).is_some()
+    }
+
+    fn is_foreign(&self, name: &Bytes) -> bool {
+        is_foreign_name(self.foreign.as_slice(), &self.tables, name.as_slice())
+    }
+
+    fn is_taken(&self, name: &Bytes) -> bool {
+        is_taken_name(&self.schema, name.as_slice())
+    }
+
+    fn columns(&self, name: &Bytes) -> usize {
+        match self.table(name) {
+            Some(table) => table.width(),
+            None => 0,
+        }
+    }
+
+    fn has_row(&self, name: &Bytes, rowid: &i64) -> bool {
+        let none = no_table(self.alloc);
+        let table = self.read(name, &none);
+        table.row(rowid).is_some()
+    }
+
+    fn row(&self, name: &Bytes, rowid: &i64) -> Result<Reply, AllocError> {
+        let none = no_table(self.alloc);
+        let table = self.read(name, &none);
+        row_reply(self.alloc, table, rowid)
+    }
+
+    fn rows(&self, name: &Bytes, low: &i64, high: &i64) -> Result<Reply, AllocError> {
+        let none = no_table(self.alloc);
+        let table = self.read(name, &none);
+        let rows = table.between(self.alloc, low, high)?;
+        let lines = rows.as_slice().len() as u64;
+        Ok(Reply::Rows {
+            rows,
+            last: ScanEnd::End { lines },
+        })
+    }
+
+    fn count(&self, name: &Bytes) -> Reply {
+        let none = no_table(self.alloc);
+        let table = self.read(name, &none);
+        Reply::Count {
+            rows: table.count(),
+        }
+    }
+
+    fn tables(&self) -> Result<Reply, AllocError> {
+        let listed = self.listed()?;
+        let ordered = sorted(self.alloc, &listed)?;
+        let mut tables = TableList::from_vec(Vec::new(self.alloc));
+        push_values(self.alloc, &mut tables, &ordered)?;
+        Ok(Reply::TableLines { tables })
+    }
+
+    fn counter(&self) -> u32 {
+        self.numbers.counter
+    }
+
+    fn set_counter(&mut self, counter: u32) {
+        self.numbers.counter = counter;
+    }
+
+    fn with_row(&self, name: &Bytes, rowid: &i64, values: Record) -> Result<MapShelf, AllocError> {
+        let none = no_table(self.alloc);
+        let table = self.read(name, &none);
+        let table = table.with_row(self.alloc, rowid, values)?;
+        self.with_kept(name, table)
+    }
+
+    fn without_row(&self, name: &Bytes, rowid: &i64) -> Result<MapShelf, AllocError> {
+        let none = no_table(self.alloc);
+        let table = self.read(name, &none);
+        let table = table.without_row(self.alloc, rowid)?;
+        self.with_kept(name, table)
+    }
+
+    fn with_table(&self, name: &Bytes, columns: ByteLists) -> Result<MapShelf, AllocError> {
+        let alloc = self.alloc;
+        let at = self.next();
+        let row = entry_row(alloc, name, &columns)?;
+        let table = KeptTable::empty(alloc, columns, at);
+        let tables = self.tables_with(name, table)?;
+        let schema = self.schema_with(at, row)?;
+        self.changed(tables, schema)
+    }
+
+    fn without_table(&self, name: &Bytes) -> Result<MapShelf, AllocError> {
+        let none = no_table(self.alloc);
+        let at = self.read(name, &none).entry();
+        let tables = self.tables_without(name)?;
+        let schema = self.schema_without(at)?;
+        self.changed(tables, schema)
+    }
+}

@@ -1,0 +1,5 @@
+pub mod MapLemmas
+pub mod BookLemmas
+pub mod CaseLemmas
+pub mod RunLemmas
+pub mod TextLemmas

@@ -1,0 +1,5 @@
+//! What the shell is seen to do: whole runs, each the lines of an input and the text that they are answered.
+#![tactic(auto)]
+
+#[cfg(test)]
+mod runs;

@@ -1,0 +1,10 @@
+pub mod StackLemmas
+pub mod JournalLemmas
+pub mod OpenLemmas
+pub mod PlaceLemmas
+pub mod PlayLemmas
+pub mod ExitLemmas
+pub mod HotLemmas
+pub mod ReadLemmas
+pub mod RollbackLemmas
+pub mod RecoveryLemmas

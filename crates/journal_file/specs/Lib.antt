@@ -1,0 +1,4 @@
+pub mod Tells
+pub mod Content
+pub mod Steps
+pub mod Laws

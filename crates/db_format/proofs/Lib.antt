@@ -10,3 +10,4 @@ pub mod BlankLemmas
 pub mod PartsLemmas
 pub mod ColumnLemmas
 pub mod FitsLemmas
+pub mod PlainLemmas

@@ -8,3 +8,5 @@ pub mod Create
 pub mod CreateSteps
 pub mod Spill
 pub mod Schema
+pub mod Plain
+pub mod PlainSteps

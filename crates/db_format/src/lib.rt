@@ -7,6 +7,7 @@
 mod create;
 mod fault;
 mod header;
+mod plain;
 mod record;
 mod report;
 mod spill;
@@ -21,6 +22,7 @@ pub use header::{
     GREATEST_LENGTH, Header, HeaderFault, accepted_fits, header_in_front, is_page_size, new_header,
     read_header, write_header,
 };
+pub use plain::{PlainList, PlainTable, plain_table, plain_tables};
 pub use record::{one_record, read_record, write_record};
 pub use report::{Report, Why};
 pub use spill::local_size;

@@ -31,10 +31,6 @@ pub record HasKind (values : List Value) (kind : List ℕ) (root : ℤ) : Type 0
   pub kind_at : slice_get values 0 ≡ Some (Text kind)
   pub root_at : slice_get values 3 ≡ Some (Int root)
 
--- five values: three texts, an integer and a text
-pub record HasParts (values : List Value) (kind name table sql : List ℕ) (root : ℤ) : Type 0 where
-  pub values_are : values ≡ Text kind ∷ Text name ∷ Text table ∷ Int root ∷ Text sql ∷ []
-
 -- the pages hold a tree from the root of a table, and its rows are records
 pub record HasRecordsIn (pages : Pages) (table : Table) : Type 0 where
   pub tree : Tree

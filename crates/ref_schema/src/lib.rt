@@ -8,4 +8,6 @@ mod records;
 mod tables;
 mod whole;
 
+pub use records::records_of;
+pub use tables::{RefTable, table_of};
 pub use whole::{LacksDatabase, is_whole};

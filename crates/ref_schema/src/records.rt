@@ -11,7 +11,7 @@ use ref_trees::RefRow;
 use std::alloc::{AllocError, Global};
 
 /// The records that the payloads of rows are; `None` where one is no record.
-pub(crate) fn records_of(alloc: Global, rows: &[RefRow]) -> Result<Option<Vec<Record>>, AllocError>
+pub fn records_of(alloc: Global, rows: &[RefRow]) -> Result<Option<Vec<Record>>, AllocError>
     ensures found { IfOk result (λ found. IfSome found (λ records. AreRecords rows.now records.items)) }
     ensures none { IfOk result (λ found. IfNone found ((records : List (List Value)) → ¬ (AreRecords rows.now records))) }
 {
@@ -118,7 +118,7 @@ fn kind_and_root(values: &[Value]) -> Option<(&[u8], i64)>
 }
 
 /// Whether a row of this kind is that of a table.
-pub(crate) fn is_table(kind: &[u8]) -> bool
+fn is_table(kind: &[u8]) -> bool
     ensures { IsTrue result ↔ kind.now ≡ codes "table" }
 {
     kind == b"table".as_slice()

@@ -1,10 +1,11 @@
 -- Searches among the cells of a page.
-use Rattle.std.proofs.Common.{◌≡◌, ℕ, suc, ◌+◌, ◌<◌, ◌≤◌, Bool, true, false, ℤ, int_le, if◌then◌else◌, List, [], ◌∷◌, length, drop, get_or, None, Some, MatchOption, refl, sym, ap, subst, ◌∙◌, drop-cons, add-one}
+use Rattle.std.proofs.Common.{◌≡◌, ℕ, suc, ◌+◌, ◌<◌, ◌≤◌, Bool, true, false, ℤ, ◌≤ℤ◌, int_le, if◌then◌else◌, List, [], ◌∷◌, length, drop, get_or, Option, None, Some, MatchOption, refl, sym, ap, subst, ◌∙◌, drop-cons, add-one}
 use Rattle.std.specs.List.{slice_get}
 use Rattle.std.proofs.lemmas.List.{drop_all}
 use Rattle.tree_page.specs.declared.cell.LeafCell.{LeafCell}
 use Rattle.tree_page.specs.declared.cell.InnerCell.{InnerCell}
 use Rattle.tree_model.specs.Walk.{first_from, child_for, all_children, children_from}
+use Rattle.tree_model.proofs.IntLemmas.{is_le}
 use Rattle.tree_search.specs.Search.{place_for}
 
 -- what stands from a place on
@@ -20,6 +21,19 @@ pub first_found : (key : ℤ) (cells : List LeafCell) (i : ℕ) (cell : LeafCell
     → cell ≡ get_or cells i cell → int_le key cell.rowid ≡ true → first_from key cells ≡ Some cell
 first_found key cells i cell before within is h =
     before ∙ ap (first_from key) (from_place cells i cell within is) ∙ chosen (int_le key cell.rowid) (Some cell) (first_from key (drop (i + 1) cells)) h
+
+-- the first cell from a key on is not before it
+not_before : (key : ℤ) (c cell : LeafCell) (more : Option LeafCell) (test : Bool) → int_le key c.rowid ≡ test → (if test then Some c else more) ≡ Some cell
+    → (more ≡ Some cell → key ≤ℤ cell.rowid) → key ≤ℤ cell.rowid
+not_before key c cell more true h is rest =
+    let same : c ≡ cell = cc in
+    let P : LeafCell → Type 0 = λ x. key ≤ℤ x.rowid in
+    subst P same (is_le key c.rowid h)
+not_before key c cell more false h is rest = rest is
+
+pub first_onward : (key : ℤ) (cells : List LeafCell) (cell : LeafCell) → first_from key cells ≡ Some cell → key ≤ℤ cell.rowid
+first_onward key [] cell is = cc
+first_onward key (c ∷ more) cell is = not_before key c cell (first_from key more) (int_le key c.rowid) refl is (first_onward key more cell)
 
 -- nothing stands behind the last cell
 pub none_left : (key : ℤ) (cells : List LeafCell) (i : ℕ) → first_from key cells ≡ first_from key (drop i cells) → length cells ≤ i → first_from key cells ≡ None

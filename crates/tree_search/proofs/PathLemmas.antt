@@ -1,5 +1,5 @@
 -- The way down to a leaf.
-use Rattle.std.proofs.Common.{◌≡◌, ℕ, zero, suc, ◌+◌, ◌-◌, ◌≤◌, ◌<◌, ℤ, List, [], ◌∷◌, ◌++◌, length, None, IsTrue, inl, inr, refl, sym, ap, subst, ◌∙◌, arith, append_assoc, append-nil, length-append}
+use Rattle.std.proofs.Common.{◌≡◌, ℕ, zero, suc, ◌+◌, ◌-◌, ◌≤◌, ◌<◌, ℤ, List, [], ◌∷◌, ◌++◌, length, Option, None, IsTrue, inl, inr, refl, sym, ap, subst, ◌∙◌, arith, append_assoc, append-nil, length-append}
 use Rattle.std.specs.List.{AllByRecursion}
 use Rattle.page_list.specs.Pages.{Pages}
 use Rattle.page_pool.specs.Space.{SpaceState, Steady, Stays}
@@ -20,36 +20,36 @@ use Rattle.tree_search.proofs.StateLemmas.{refused_on, refused_as}
 
 -- ---- paths, from a page to the one below it
 
-pub leads_fault : (left : ℕ) (pages : Pages) (above page : ℕ) (key : ℤ) (fault : Fault) → IsFault pages left above page fault → Leads left pages above page key (Ends fault)
-leads_fault zero pages above page key fault is = record { leads = (fault, is, refl) }
-leads_fault (suc left) pages above page key fault is = record { leads = inl (fault, is, refl) }
+pub leads_fault : (left : ℕ) (columns : Option ℕ) (pages : Pages) (above page : ℕ) (key : ℤ) (fault : Fault) → IsFault pages left above page fault → Leads left columns pages above page key (Ends fault)
+leads_fault zero columns pages above page key fault is = record { leads = (fault, is, refl) }
+leads_fault (suc left) columns pages above page key fault is = record { leads = inl (fault, is, refl) }
 
-pub leads_leaf : (left : ℕ) (pages : Pages) (above page : ℕ) (key : ℤ) (end : PathEnd) (cells : List LeafCell) → 1 ≤ left
-    → HasCells pages page (LeafPage cells) → AtKey None pages page key (first_from key cells) end → Leads left pages above page key end
-leads_leaf zero pages above page key end cells some has at = absurd (omega arith)
-leads_leaf (suc left) pages above page key end cells some has at = record { leads = inr (inl (cells, has, at)) }
+pub leads_leaf : (left : ℕ) (columns : Option ℕ) (pages : Pages) (above page : ℕ) (key : ℤ) (end : PathEnd) (cells : List LeafCell) → 1 ≤ left
+    → HasCells pages page (LeafPage cells) → AtKey columns pages page key (first_from key cells) end → Leads left columns pages above page key end
+leads_leaf zero columns pages above page key end cells some has at = absurd (omega arith)
+leads_leaf (suc left) columns pages above page key end cells some has at = record { leads = inr (inl (cells, has, at)) }
 
-pub leads_down : (left more : ℕ) (pages : Pages) (above page : ℕ) (key : ℤ) (end : PathEnd) (cells : List InnerCell) (right : ℕ) → left ≡ suc more
-    → HasCells pages page (InteriorPage cells right) → Leads more pages page (child_for key cells right) key end → Leads left pages above page key end
-leads_down left more pages above page key end cells right is has below =
-    let P : ℕ → Type 0 = λ n. Leads n pages above page key end in
+pub leads_down : (left more : ℕ) (columns : Option ℕ) (pages : Pages) (above page : ℕ) (key : ℤ) (end : PathEnd) (cells : List InnerCell) (right : ℕ) → left ≡ suc more
+    → HasCells pages page (InteriorPage cells right) → Leads more columns pages page (child_for key cells right) key end → Leads left columns pages above page key end
+leads_down left more columns pages above page key end cells right is has below =
+    let P : ℕ → Type 0 = λ n. Leads n columns pages above page key end in
     subst P (sym is) (record { leads = inr (inr (cells, right, has, below.leads)) })
 
 -- the way and what its leaf says of the key make the path
-pub way_leads : (levels : List Level) (left : ℕ) (pages : Pages) (above page leaf : ℕ) (key : ℤ) (end : PathEnd) (cells : List LeafCell) → length levels < left
-    → Descends pages key page levels leaf cells → AtKey None pages leaf key (first_from key cells) end → Leads left pages above page key end
-way_leads [] left pages above page leaf key end cells few way at =
-    let P : ℕ → Type 0 = λ n. Leads left pages above n key end in
-    subst P way.0 (leads_leaf left pages above leaf key end cells (omega arith) way.1 at)
-way_leads (level ∷ more) left pages above page leaf key end cells few way at =
-    leads_down left (left - 1) pages above page key end level.cells level.right (omega arith) way.1
-    (way_leads more (left - 1) pages page (child_for key level.cells level.right) leaf key end cells (omega arith) way.3 at)
+pub way_leads : (levels : List Level) (left : ℕ) (columns : Option ℕ) (pages : Pages) (above page leaf : ℕ) (key : ℤ) (end : PathEnd) (cells : List LeafCell) → length levels < left
+    → Descends pages key page levels leaf cells → AtKey columns pages leaf key (first_from key cells) end → Leads left columns pages above page key end
+way_leads [] left columns pages above page leaf key end cells few way at =
+    let P : ℕ → Type 0 = λ n. Leads left columns pages above n key end in
+    subst P way.0 (leads_leaf left columns pages above leaf key end cells (omega arith) way.1 at)
+way_leads (level ∷ more) left columns pages above page leaf key end cells few way at =
+    leads_down left (left - 1) columns pages above page key end level.cells level.right (omega arith) way.1
+    (way_leads more (left - 1) columns pages page (child_for key level.cells level.right) leaf key end cells (omega arith) way.3 at)
 
 -- ---- the loop
 
 -- a descent has come to a page over these levels: what is found from there on is found from the root on
 pub record Comes (pages : Pages) (root : ℕ) (key : ℤ) (left above page : ℕ) (levels : List Level) : Type 0 where
-  pub ends : (end : PathEnd) → Leads left pages above page key end → Leads most_depth pages root root key end
+  pub ends : (end : PathEnd) → Leads left None pages above page key end → Leads most_depth None pages root root key end
   pub down : (more : List Level) (leaf : ℕ) (cells : List LeafCell) → Descends pages key page more leaf cells → Descends pages key root (levels ++ more) leaf cells
 
 pub comes_down : (pages : Pages) (root : ℕ) (key : ℤ) (left less above page child : ℕ) (levels longer : List Level) (level : Level) → Comes pages root key left above page levels
@@ -57,8 +57,8 @@ pub comes_down : (pages : Pages) (root : ℕ) (key : ℤ) (left less above page 
     → child ≡ child_for key level.cells level.right → longer ≡ levels ++ level ∷ [] → Comes pages root key less page child longer
 comes_down pages root key left less above page child levels longer level comes left_is number_is has at child_is longer_is = record {
   ends = λ end leads.
-      let P : ℕ → Type 0 = λ n. Leads less pages page n key end in
-      comes.ends end (leads_down left less pages above page key end level.cells level.right left_is has (subst P child_is leads));
+      let P : ℕ → Type 0 = λ n. Leads less None pages page n key end in
+      comes.ends end (leads_down left less None pages above page key end level.cells level.right left_is has (subst P child_is leads));
   down = λ more leaf cells way.
       let P : ℕ → Type 0 = λ n. Descends pages key n more leaf cells in
       let Q : List Level → Type 0 = λ l. Descends pages key root l leaf cells in
@@ -67,8 +67,8 @@ comes_down pages root key left less above page child levels longer level comes l
 }
 
 pub comes_fault : (pages : Pages) (root : ℕ) (key : ℤ) (left above page : ℕ) (levels : List Level) (fault : Fault) → Comes pages root key left above page levels
-    → IsFault pages left above page fault → Leads most_depth pages root root key (Ends fault)
-comes_fault pages root key left above page levels fault comes is = comes.ends (Ends fault) (leads_fault left pages above page key fault is)
+    → IsFault pages left above page fault → Leads most_depth None pages root root key (Ends fault)
+comes_fault pages root key left above page levels fault comes is = comes.ends (Ends fault) (leads_fault left None pages above page key fault is)
 
 pub comes_leaf : (pages : Pages) (root : ℕ) (key : ℤ) (left above page : ℕ) (levels : List Level) (cells : List LeafCell) → Comes pages root key left above page levels
     → HasCells pages page (LeafPage cells) → Descends pages key root levels page cells
@@ -96,8 +96,8 @@ way_more size usable left less levels longer level way left_is step longer_is = 
 
 pub down_refused : (old mid new : SpaceState) (root : ℕ) (key : ℤ) (left above page : ℕ) (levels : List Level) (fault : SpaceFault) → Steady old mid → Stays old mid
     → (IsTrue old.tells → Comes old.pages root key left above page levels) → SearchRefused mid new (IsFault mid.pages left above page) fault
-    → SearchRefused old new (λ f. Leads most_depth old.pages root root key (Ends f)) fault
+    → SearchRefused old new (λ f. Leads most_depth None old.pages root root key (Ends f)) fault
 down_refused old mid new root key left above page levels fault steady stays comes refused =
-    refused_as old new (IsFault old.pages left above page) (λ f. Leads most_depth old.pages root root key (Ends f)) fault
+    refused_as old new (IsFault old.pages left above page) (λ f. Leads most_depth None old.pages root root key (Ends f)) fault
     (λ t f is. comes_fault old.pages root key left above page levels f (comes t) is)
     (refused_on old mid new (λ p. IsFault p left above page) fault steady stays refused)

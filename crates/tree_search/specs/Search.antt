@@ -19,8 +19,9 @@ use Rattle.tree_model.specs.declared.ends.PathEnd.{PathEnd}
 use Rattle.tree_model.specs.declared.ends.Fault.TheVariants.{BadPage, Broken}
 use Rattle.tree_model.specs.declared.ends.PathEnd.TheVariants.{HasPayload, NoRow}
 use Rattle.tree_model.specs.declared.ends.Next.TheVariants.{Found, Nothing, Meets}
-use Rattle.tree_model.specs.Walk.{NextFrom, IsReadable, IsUnreadable, child_for}
+use Rattle.tree_model.specs.Walk.{NextFrom, Path, AtKey, IsReadable, IsUnreadable, child_for}
 use Rattle.tree_search.specs.declared.path.Descent.{Descent}
+use Rattle.tree_search.specs.declared.row.OnLeaf.{OnLeaf}
 
 -- the place of the first cell whose key is at least this one, or the number of cells
 abbrev pub place_for : ℤ → List InnerCell → ℕ
@@ -78,6 +79,24 @@ abbrev pub path_end : Option (List ℕ) → PathEnd
 path_end None = NoRow
 path_end (Some payload) = HasPayload payload
 
+-- the path of a key ends so, whichever payloads it accepts
+pub record EndsAlways (pages : Pages) (root : ℕ) (key : ℤ) (end : PathEnd) : Type 0 where
+  pub path : (columns : Option ℕ) → Path columns pages root key end
+
+-- the path of a key comes to the cell of its row, on this leaf, with this payload: how that cell ends a path is how the
+-- path of the key ends, whichever payloads it accepts
+pub record LeadsToRow (pages : Pages) (root : ℕ) (key : ℤ) (row : OnLeaf) : Type 0 where
+  pub keyed : row.rowid ≡ key
+  pub cell : LeafCell
+  pub readable : IsReadable None pages cell row.payload
+  pub of_key : cell.rowid ≡ key
+  pub path : (columns : Option ℕ) (end : PathEnd) → AtKey columns pages row.leaf key (Some cell) end → Path columns pages root key end
+
+-- where the path of a key comes to its row, or that there is none
+abbrev pub PathIs : Pages → ℕ → ℤ → Option OnLeaf → Type 0
+PathIs pages root key None = EndsAlways pages root key NoRow
+PathIs pages root key (Some row) = LeadsToRow pages root key row
+
 -- the first cell that a search from a key on finds is that of this row
 pub record FindsRow (pages : Pages) (root : ℕ) (from rowid : ℤ) (payload : List ℕ) : Type 0 where
   pub leaf : ℕ
@@ -90,6 +109,21 @@ pub record FindsRow (pages : Pages) (root : ℕ) (from rowid : ℤ) (payload : L
 abbrev pub NextIs : Pages → ℕ → ℤ → Option (ℤ × List ℕ) → Type 0
 NextIs pages root from None = NextFrom pages root from Nothing
 NextIs pages root from (Some row) = FindsRow pages root from row.0 row.1
+
+-- the same with its leaf
+pub record FindsOnLeaf (pages : Pages) (root : ℕ) (from : ℤ) (row : OnLeaf) : Type 0 where
+  pub cell : LeafCell
+  pub sought : NextFrom pages root from (Found row.leaf cell)
+  pub keyed : row.rowid ≡ cell.rowid
+  pub readable : IsReadable None pages cell row.payload
+
+abbrev pub NextOnLeaf : Pages → ℕ → ℤ → Option OnLeaf → Type 0
+NextOnLeaf pages root from None = NextFrom pages root from Nothing
+NextOnLeaf pages root from (Some row) = FindsOnLeaf pages root from row
+
+-- what a row is without its leaf
+abbrev pub shown_of : OnLeaf → ℤ × List ℕ
+shown_of row = (row.rowid, row.payload)
 
 -- the payload of that cell cannot be read
 pub record FindsUnreadable (pages : Pages) (root : ℕ) (from : ℤ) (fault : Fault) : Type 0 where

@@ -1,17 +1,16 @@
 -- Words that only the private steps use. The definitions of paths and searches stand here as records: at a depth that is a
 -- numeral they are not opened.
-use Rattle.std.specs.Prelude.{◌≡◌, ◌⊎◌, ℕ, ◌≤◌, ℤ, List, length, Option, Some, None, IsTrue}
+use Rattle.std.specs.Prelude.{◌≡◌, ℕ, ◌≤◌, ℤ, List, length, Option, Some, None, IsTrue}
 use Rattle.std.specs.declared.cmp.Ordering.{Ordering}
 use Rattle.std.specs.Ordering.{nat_cmp, ordering_then}
 use Rattle.std.specs.BTreeSet.{BTreeSet, contains}
 use Rattle.page_list.specs.Pages.{Pages}
 use Rattle.tree_page.specs.declared.cell.LeafCell.{LeafCell}
-use Rattle.tree_model.specs.Whole.{below_all, most_depth}
-use Rattle.tree_model.specs.declared.ends.Fault.{Fault}
+use Rattle.tree_model.specs.Whole.{below_all}
 use Rattle.tree_model.specs.declared.ends.PathEnd.{PathEnd}
 use Rattle.tree_model.specs.declared.ends.Next.{Next}
-use Rattle.tree_model.specs.declared.ends.Next.TheVariants.{Found, Nothing, Meets}
-use Rattle.tree_model.specs.Walk.{LeadsTo, Seeks, FirstOf, IsReadable, IsUnreadable}
+use Rattle.tree_model.specs.declared.ends.Next.TheVariants.{Found, Nothing}
+use Rattle.tree_model.specs.Walk.{LeadsTo, Seeks, FirstOf}
 use Rattle.tree_search.specs.declared.next.Place.{Place}
 use Rattle.tree_search.specs.declared.next.Search.{Search}
 
@@ -20,8 +19,8 @@ abbrev pub IsKept : LeafCell → Type 0
 IsKept cell = length cell.local ≤ cell.payload_len
 
 -- the path from a page on
-pub record Leads (left : ℕ) (pages : Pages) (above page : ℕ) (key : ℤ) (end : PathEnd) : Type 0 where
-  pub leads : LeadsTo left None pages above page key end
+pub record Leads (left : ℕ) (columns : Option ℕ) (pages : Pages) (above page : ℕ) (key : ℤ) (end : PathEnd) : Type 0 where
+  pub leads : LeadsTo left columns pages above page key end
 
 -- the key that a search begins at
 abbrev pub from_of : Option ℤ → ℤ
@@ -52,25 +51,3 @@ pub record AreEmpty (pages : Pages) (key : ℤ) (empty : BTreeSet (ℕ × ℕ)) 
 pub record GoesOn (old new : Search) : Type 0 where
   pub same_key : new.key ≡ old.key
   pub as_long : length new.buffer.items ≡ length old.buffer.items
-
--- the row that the whole search found, and that it found none
-pub record ReadsRow (pages : Pages) (root : ℕ) (from rowid : ℤ) (payload : List ℕ) : Type 0 where
-  pub leaf : ℕ
-  pub cell : LeafCell
-  pub sought : HasSought most_depth pages from root from root (Found leaf cell)
-  pub keyed : rowid ≡ cell.rowid
-  pub readable : IsReadable None pages cell payload
-
-abbrev pub NextSought : Pages → ℕ → ℤ → Option (ℤ × List ℕ) → Type 0
-NextSought pages root from None = HasSought most_depth pages from root from root Nothing
-NextSought pages root from (Some row) = ReadsRow pages root from row.0 row.1
-
--- the fault that it met
-pub record RowFails (pages : Pages) (root : ℕ) (from : ℤ) (fault : Fault) : Type 0 where
-  pub leaf : ℕ
-  pub cell : LeafCell
-  pub sought : HasSought most_depth pages from root from root (Found leaf cell)
-  pub unreadable : IsUnreadable None pages leaf cell fault
-
-abbrev pub NextFails : Pages → ℕ → ℤ → Fault → Type 0
-NextFails pages root from fault = HasSought most_depth pages from root from root (Meets fault) ⊎ RowFails pages root from fault

@@ -10,8 +10,8 @@ mod path;
 mod payload;
 mod row;
 
-pub use next::next_from;
+pub use next::{next_from, next_on_leaf};
 pub use page::{MOST_DEPTH, enter, page_buffer};
 pub use path::{Descent, descend};
 pub use payload::of_leaf;
-pub use row::find;
+pub use row::{OnLeaf, find, find_on_leaf};

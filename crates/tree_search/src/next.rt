@@ -1,18 +1,19 @@
 //! The next row from a rowid on.
 
-ghost use Rattle.std.specs.Prelude.{◌≡◌, ◌≤◌, ℕ, length, IsTrue, IfOk, IfErr, OnOk, IfSome, Some, None, option_map};
+ghost use Rattle.std.specs.Prelude.{◌≡◌, ◌≤◌, ◌≤ℤ◌, ℕ, length, IsTrue, IfOk, IfErr, OnOk, IfSome, Some, None, option_map};
 ghost use Rattle.page_pool.specs.Space.{IsReady, HasSizes, Steady, Stays};
 ghost use Rattle.tree_model.specs.Tree.{Tree, rows_of};
 ghost use Rattle.tree_model.specs.Whole.{IsWholeTree};
 ghost use Rattle.tree_model.specs.declared.ends.Next.TheVariants.{Meets};
 ghost use Rattle.tree_model.specs.Walk.{all_children, children_from, first_from, in_leaf};
 ghost use Rattle.tree_model.specs.Laws.{first_row, shown};
-ghost use Rattle.tree_search.specs.Search.{NextIs, NextMeets, SearchRefused, IsNoDamage};
-ghost use Rattle.tree_search.specs.Steps.{from_of, next_of, IsKept, HasSought, HasFirst, GoesOn, AreEmpty, NextSought, NextFails};
+ghost use Rattle.tree_search.specs.Search.{NextIs, NextMeets, NextOnLeaf, shown_of, SearchRefused, IsNoDamage};
+ghost use Rattle.tree_search.specs.Steps.{from_of, next_of, IsKept, HasSought, HasFirst, GoesOn, AreEmpty};
 
 use crate::page::{MOST_DEPTH, enter, page_buffer};
 use crate::path::place_from;
 use crate::payload::{first_from, payload_of};
+use crate::row::OnLeaf;
 use byte_base::Bytes;
 use page_pool::{PageSpace, SpaceFault};
 use std::alloc::Global;
@@ -44,9 +45,7 @@ pub(crate) struct Search {
 
 /// The first row with a rowid of at least `from` in the tree from page `root`, its rowid and its payload.
 ///
-/// Refused as `get` is, with `Bad` and `Corrupt` of the first page that cannot be gone over on the way, in the leaf where
-/// `from` would be and in those after it, or where the chain of the row cannot be read. Where the root, or the first page of
-/// the chain, is out of range, `Corrupt` names the root itself, or the leaf.
+/// Refused as `next_on_leaf` is.
 pub fn next_from<S: PageSpace>(
     alloc: Global,
     space: &mut S,
@@ -65,21 +64,38 @@ pub fn next_from<S: PageSpace>(
 {
     one_next();
     next_gives();
-    read_next(alloc, space, root, from)
+    let row = next_on_leaf(alloc, space, root, from)?;
+    Ok(shown_in(row))
 }
 
-/// The same, without what it is in a whole tree.
-fn read_next<S: PageSpace>(
+/// What a row has without the place where it was found.
+fn shown_in(row: Option<OnLeaf>) -> Option<(i64, Bytes)>
+    ensures { result ≡ option_map shown_of row }
+{
+    match row {
+        Some(row) => Some((row.rowid, row.payload)),
+        None => None,
+    }
+}
+
+/// The same with the leaf that it is on.
+///
+/// Refused as `get` is, with `Bad` and `Corrupt` of the first page that cannot be gone over on the way, in the leaf where
+/// `from` would be and in those after it, or where the chain of the row cannot be read. Where the root, or the first page of
+/// the chain, is out of range, `Corrupt` names the root itself, or the leaf.
+pub fn next_on_leaf<S: PageSpace>(
     alloc: Global,
     space: &mut S,
     root: u32,
     from: i64,
-) -> Result<Option<(i64, Bytes)>, SpaceFault>
+) -> Result<Option<OnLeaf>, SpaceFault>
     requires ready { IsReady (S.state space.old) }
+    requires some { 1 ≤ (S.state space.old).pages.size }
     ensures steady { Steady (S.state space.old) (S.state space.new) }
     ensures stays { Stays (S.state space.old) (S.state space.new) }
-    ensures found { IsTrue (S.state space.old).tells → IfOk result (NextSought (S.state space.old).pages root from) }
-    ensures refused { IfErr result (SearchRefused (S.state space.old) (S.state space.new) (NextFails (S.state space.old).pages root from)) }
+    ensures found { IsTrue (S.state space.old).tells → IfOk result (NextOnLeaf (S.state space.old).pages root from) }
+    ensures onward { IfOk result (λ found. IfSome found (λ row. from ≤ℤ row.rowid)) }
+    ensures refused { IfErr result (SearchRefused (S.state space.old) (S.state space.new) (NextMeets (S.state space.old).pages root from)) }
 {
     let mut search = Search {
         alloc,
@@ -93,7 +109,11 @@ fn read_next<S: PageSpace>(
     };
     let rowid = cell.rowid;
     let payload = payload_of(alloc, space, leaf, cell)?;
-    Ok(Some((rowid, payload)))
+    Ok(Some(OnLeaf {
+        leaf,
+        rowid,
+        payload,
+    }))
 }
 
 /// The first cell from the key on, from page `page` on, whose number stands on page `above`, over at most `left` more pages:
@@ -116,6 +136,7 @@ fn seek<S: PageSpace>(
     ensures search { GoesOn search.old search.new }
     ensures empty { IsTrue (S.state space.old).tells → OnOk result (AreEmpty (S.state space.old).pages search.old.key search.new.empty) }
     ensures kept { IfOk result (λ found. IfSome found (λ place. IsKept place.cell)) }
+    ensures onward { IfOk result (λ found. IfSome found (λ place. search.old.key ≤ℤ place.cell.rowid)) }
     ensures found { IsTrue (S.state space.old).tells → IfOk result (λ found. HasSought left (S.state space.old).pages search.old.key above (from_of from) page (next_of found)) }
     ensures refused { IfErr result (SearchRefused (S.state space.old) (S.state space.new)
         (λ fault. HasSought left (S.state space.old).pages search.old.key above (from_of from) page (Meets fault))) }
@@ -152,6 +173,7 @@ fn seek_page<S: PageSpace>(
     ensures search { GoesOn search.old search.new }
     ensures empty { IsTrue (S.state space.old).tells → OnOk result (AreEmpty (S.state space.old).pages search.old.key search.new.empty) }
     ensures kept { IfOk result (λ found. IfSome found (λ place. IsKept place.cell)) }
+    ensures onward { IfOk result (λ found. IfSome found (λ place. search.old.key ≤ℤ place.cell.rowid)) }
     ensures found { IsTrue (S.state space.old).tells → IfOk result (λ found. HasSought left (S.state space.old).pages search.old.key above (from_of from) page (next_of found)) }
     ensures refused { IfErr result (SearchRefused (S.state space.old) (S.state space.new)
         (λ fault. HasSought left (S.state space.old).pages search.old.key above (from_of from) page (Meets fault))) }
@@ -168,6 +190,7 @@ fn seek_page<S: PageSpace>(
 fn in_leaf(leaf: u32, key: i64, cells: LeafCells) -> Option<Place>
     ensures is { next_of result ≡ in_leaf leaf (first_from key cells) }
     ensures cell { IfSome result (λ place. first_from key cells ≡ Some place.cell) }
+    ensures onward { IfSome result (λ place. key ≤ℤ place.cell.rowid) }
 {
     let Some(cell) = first_from(key, cells) else {
         return None;
@@ -196,6 +219,7 @@ fn first_of<S: PageSpace>(
     ensures search { GoesOn search.old search.new }
     ensures empty { IsTrue (S.state space.old).tells → OnOk result (AreEmpty (S.state space.old).pages search.old.key search.new.empty) }
     ensures kept { IfOk result (λ found. IfSome found (λ place. IsKept place.cell)) }
+    ensures onward { IfOk result (λ found. IfSome found (λ place. search.old.key ≤ℤ place.cell.rowid)) }
     ensures found { IsTrue (S.state space.old).tells → IfOk result
         (λ found. HasFirst left (S.state space.old).pages search.old.key page (from_of from) (children_from (from_of from) cells.now right) (next_of found)) }
     ensures refused { IfErr result (SearchRefused (S.state space.old) (S.state space.new)

@@ -1,6 +1,6 @@
 //! The way from a root down to a leaf.
 
-ghost use Rattle.std.specs.Prelude.{◌≡◌, ◌≤◌, length, slice_get, int_le, MatchOption, IsTrue, IfOk, IfErr};
+ghost use Rattle.std.specs.Prelude.{◌≡◌, ◌≤◌, length, slice_get, int_le, MatchOption, IsTrue, IfOk, IfErr, None};
 ghost use Rattle.page_pool.specs.Space.{IsReady, HasSizes, Steady, Stays};
 ghost use Rattle.tree_model.specs.declared.ends.PathEnd.TheVariants.{Ends};
 ghost use Rattle.tree_model.specs.Walk.{Path};
@@ -61,7 +61,7 @@ fn go_down<S: PageSpace>(
     ensures stays { Stays (S.state space.old) (S.state space.new) }
     ensures found { IsTrue (S.state space.old).tells → IfOk result (λ d. Descends (S.state space.old).pages rowid root d.levels.items d.leaf d.cells) }
     ensures sound { IfOk result (IsDescent (S.state space.old).pages.size (S.state space.old).pages.usable) }
-    ensures refused { IfErr result (SearchRefused (S.state space.old) (S.state space.new) (λ fault. Leads 20 (S.state space.old).pages root root rowid (Ends fault))) }
+    ensures refused { IfErr result (SearchRefused (S.state space.old) (S.state space.new) (λ fault. Leads 20 None (S.state space.old).pages root root rowid (Ends fault))) }
 {
     let mut levels = Vec::new(alloc);
     let mut left = MOST_DEPTH;

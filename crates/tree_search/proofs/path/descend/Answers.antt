@@ -16,7 +16,7 @@ returns-clause-refused g c =
     let old = state c.args.space.now in
     let new = state c.go_down.new.space in
     let key_fits = c.ranges.rowid in
-    let A : Fault → Type 0 = λ fault. Leads most_depth old.pages c.args.root c.args.root c.args.rowid (Ends fault) in
+    let A : Fault → Type 0 = λ fault. Leads most_depth None old.pages c.args.root c.args.root c.args.rowid (Ends fault) in
     let B : Fault → Type 0 = λ fault. Path None old.pages c.args.root c.args.rowid (Ends fault) in
     let refused : IfErr c.go_down.result (SearchRefused old new A) = simp to_z-of_z at c.go_down.ensures.refused in
     IfErr-weaker c.go_down.result (SearchRefused old new A) (SearchRefused old new B) (λ fault. refused_as old new A B fault (λ t f leads. leads.leads)) refused

@@ -1,17 +1,13 @@
-use Rattle.std.proofs.Common.{◌≡◌, ◌≢◌, ◌∙◌, ap, sym, subst, inl, inr, refl, IsTrue, None, Some, SFits, w64, to_z, of_z, rules}
+use Rattle.std.proofs.Common.{◌≡◌, ◌≢◌, ◌∙◌, ap, sym, subst, refl, IsTrue, None, SFits, w64, to_z, of_z, rules}
 use Rattle.std.proofs.lemmas.Int.{to_z-of_z}
 use Rattle.std.proofs.lemmas.Result.{err_from_is_err_and}
 use Rattle.page_list.specs.Pages.{Pages}
-use Rattle.tree_model.specs.declared.ends.Fault.{Fault}
-use Rattle.tree_model.specs.declared.ends.PathEnd.TheVariants.{HasPayload, NoRow, Ends}
-use Rattle.tree_model.specs.Whole.{most_depth}
-use Rattle.tree_model.specs.Walk.{Path, AtKey, IsReadable, first_from}
+use Rattle.tree_model.specs.declared.ends.PathEnd.TheVariants.{Ends}
+use Rattle.tree_model.specs.Walk.{Path, IsReadable, first_from}
 use Rattle.tree_search.specs.Search.{SearchRefused, Descends}
-use Rattle.tree_search.specs.Steps.{Leads}
-use Rattle.tree_search.proofs.StateLemmas.{refused_as}
 use Rattle.tree_search.proofs.KeptLemmas.{first_kept}
-use Rattle.tree_search.proofs.RowLemmas.{row_leads, row_refused}
-use Rattle.tree_search.proofs.row.read_row.Goals as goal
+use Rattle.tree_search.proofs.RowLemmas.{way_refused, no_cell, other_cell, row_found, row_refused}
+use Rattle.tree_search.proofs.row.find_on_leaf.Goals as goal
 
 pub returns-in_err-leaf-clause-refused : goal.returns-in_err-leaf-clause-refused
 returns-in_err-leaf-clause-refused g c =
@@ -19,11 +15,9 @@ returns-in_err-leaf-clause-refused g c =
     let old = state c.args.space.now in
     let new = state c.descend.new.space in
     let key_fits = c.ranges.rowid in
-    let A : Fault → Type 0 = λ fault. Path None old.pages c.args.root c.args.rowid (Ends fault) in
-    let B : Fault → Type 0 = λ fault. Leads most_depth old.pages c.args.root c.args.root c.args.rowid (Ends fault) in
     let p = err_from_is_err_and c.from_residual.result c.from_residual.ensures.1 in
-    let refused : SearchRefused old new A c.in_err-leaf.field-0.0 = simp to_z-of_z at c.in_err-leaf.ensures.refused in
-    rw (p.1, p.2) (refused_as old new A B c.in_err-leaf.field-0.0 (λ t f path. record { leads = path }) refused)
+    let refused : SearchRefused old new (λ f. Path None old.pages c.args.root c.args.rowid (Ends f)) c.in_err-leaf.field-0.0 = simp to_z-of_z at c.in_err-leaf.ensures.refused in
+    rw (p.1, p.2) (way_refused old new c.args.root c.args.rowid c.in_err-leaf.field-0.0 refused)
 
 pub returns-in_default-clause-found : goal.returns-in_default-clause-found
 returns-in_default-clause-found g c = λ t.
@@ -32,7 +26,7 @@ returns-in_default-clause-found g c = λ t.
     let key_fits = c.ranges.rowid in
     let way : IsTrue old.tells → Descends old.pages c.args.rowid c.args.root d.levels.items d.leaf d.cells = simp to_z-of_z at c.in_ok-leaf.ensures.found in
     let found : c.first_from.result ≡ first_from c.args.rowid d.cells = simp to_z-of_z at c.first_from.ensures in
-    row_leads old.pages old.pages.size old.pages.usable c.args.root c.args.rowid d None NoRow c.in_ok-leaf.ensures.sound (way t) (sym found ∙ c.in_default.is) refl
+    no_cell old.pages old.pages.size old.pages.usable c.args.root c.args.rowid d c.in_ok-leaf.ensures.sound (way t) (sym found ∙ c.in_default.is)
 
 pub returns-then-cell-rowid-clause-found : goal.returns-then-cell-rowid-clause-found
 returns-then-cell-rowid-clause-found g c = λ t.
@@ -43,8 +37,7 @@ returns-then-cell-rowid-clause-found g c = λ t.
     let way : IsTrue old.tells → Descends old.pages c.args.rowid c.args.root d.levels.items d.leaf d.cells = simp to_z-of_z at c.in_ok-leaf.ensures.found in
     let found : c.first_from.result ≡ first_from c.args.rowid d.cells = simp to_z-of_z at c.first_from.ensures in
     let other : cell.rowid ≢ c.args.rowid = λ same. c.if-cell-rowid.true (ap (of_z w64) same) in
-    let at : AtKey None old.pages d.leaf c.args.rowid (Some cell) NoRow = inl (other, refl) in
-    row_leads old.pages old.pages.size old.pages.usable c.args.root c.args.rowid d (Some cell) NoRow c.in_ok-leaf.ensures.sound (way t) (sym found ∙ c.in-Some.is) at
+    other_cell old.pages old.pages.size old.pages.usable c.args.root c.args.rowid d cell c.in_ok-leaf.ensures.sound (way t) (sym found ∙ c.in-Some.is) other
 
 pub payload_of-requires-clause-kept : goal.payload_of-requires-clause-kept
 payload_of-requires-clause-kept g c =
@@ -74,7 +67,6 @@ pub returns-clause-found : goal.returns-clause-found
 returns-clause-found g c = λ t.
     let state = g.S.PageSpace.state in
     let old = state c.args.space.now in
-    let mid = state c.descend.new.space in
     let d = c.in_ok-leaf.field-0 in
     let cell = c.in-Some.cell in
     let payload = c.in_ok-payload.payload in
@@ -82,9 +74,9 @@ returns-clause-found g c = λ t.
     let rowid_fits : SFits w64 cell.rowid = search rules in
     let way : IsTrue old.tells → Descends old.pages c.args.rowid c.args.root d.levels.items d.leaf d.cells = simp to_z-of_z at c.in_ok-leaf.ensures.found in
     let found : c.first_from.result ≡ first_from c.args.rowid d.cells = simp to_z-of_z at c.first_from.ensures in
-    let keyed : cell.rowid ≡ c.args.rowid = sym (to_z-of_z w64 cell.rowid rowid_fits) ∙ ap (to_z w64) c.if-cell-rowid.false ∙ to_z-of_z w64 c.args.rowid key_fits in
+    let of_key : cell.rowid ≡ c.args.rowid = sym (to_z-of_z w64 cell.rowid rowid_fits) ∙ ap (to_z w64) c.if-cell-rowid.false ∙ to_z-of_z w64 c.args.rowid key_fits in
     let P : Pages → Type 0 = λ p. IsReadable None p cell payload in
     let readable : IsReadable None old.pages cell payload =
     subst P (c.in_ok-leaf.ensures.stays.pages_stay t) (c.in_ok-payload.ensures.found (c.in_ok-leaf.ensures.steady.told ∙ t)) in
-    let at : AtKey None old.pages d.leaf c.args.rowid (Some cell) (HasPayload payload) = inr (keyed, inl (payload, readable, refl)) in
-    row_leads old.pages old.pages.size old.pages.usable c.args.root c.args.rowid d (Some cell) (HasPayload payload) c.in_ok-leaf.ensures.sound (way t) (sym found ∙ c.in-Some.is) at
+    row_found old.pages old.pages.size old.pages.usable c.args.root c.args.rowid d cell _ c.in_ok-leaf.ensures.sound (way t) (sym found ∙ c.in-Some.is) of_key refl
+    (to_z-of_z w64 c.args.rowid key_fits) readable

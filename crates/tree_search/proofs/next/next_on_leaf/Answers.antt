@@ -10,7 +10,7 @@ use Rattle.tree_search.specs.declared.next.Place.{Place}
 use Rattle.tree_search.specs.Search.{SearchRefused}
 use Rattle.tree_search.specs.Steps.{HasSought, next_of}
 use Rattle.tree_search.proofs.NextRowLemmas.{way_refused, payload_refused}
-use Rattle.tree_search.proofs.next.read_next.Goals as goal
+use Rattle.tree_search.proofs.next.next_on_leaf.Goals as goal
 
 pub returns-in_err-leaf-clause-refused : goal.returns-in_err-leaf-clause-refused
 returns-in_err-leaf-clause-refused g c =
@@ -29,7 +29,7 @@ returns-in_default-clause-found g c = λ t.
     let key_fits = c.ranges.from in
     let P : Option Place → Type 0 = λ found. HasSought most_depth old.pages c.args.from c.args.root c.args.from c.args.root (next_of found) in
     let sought : P c.in_ok-leaf.field-0 = simp to_z-of_z at (c.in_ok-leaf.ensures.found t) in
-    subst P c.in_default.is sought
+    (subst P c.in_default.is sought).seeks
 
 pub returns-in_err-payload-clause-refused : goal.returns-in_err-payload-clause-refused
 returns-in_err-payload-clause-refused g c =
@@ -55,9 +55,8 @@ returns-clause-found g c = λ t.
     let sought : P c.in_ok-leaf.field-0 = simp to_z-of_z at (c.in_ok-leaf.ensures.found t) in
     let Q : Pages → Type 0 = λ p. IsReadable None p place.cell c.in_ok-payload.payload in
     record {
-      leaf = place.leaf;
       cell = place.cell;
-      sought = subst P c.in-Some.is sought;
+      sought = (subst P c.in-Some.is sought).seeks;
       keyed = to_z-of_z w64 place.cell.rowid rowid_fits;
       readable = subst Q (c.in_ok-leaf.ensures.stays.pages_stay t) (c.in_ok-payload.ensures.found (c.in_ok-leaf.ensures.steady.told ∙ t));
     }

@@ -16,6 +16,7 @@ use Rattle.tree_model.specs.Laws.{Admits, RootAdded}
 use Rattle.tree_page.specs.Laws.{FrontApart}
 use Rattle.tree_model.proofs.WholeLemmas.{one_named, flat_append}
 use Rattle.tree_laws.proofs.CountLemmas.{pages_add_up}
+use Rattle.tree_laws.proofs.KeptLemmas.{front_steps, head_front, header_front}
 use Rattle.tree_put.proofs.TookLemmas.{took}
 use Rattle.tree_laws.specs.Front.{HeaderSize}
 use Rattle.tree_laws.specs.Whole.{WholeTakes}
@@ -144,6 +145,7 @@ one_more front_apart old new told sizes steady leaf roots trees trunks whole who
             },
             λ named. none (omega (arith, named, one.rest n apart, named_more roots trees trunks left number n one.not_first)),
           );
+      front = front_steps p mid new.pages (head_front p mid t.many.leaves.first (sizes.each told).least) (header_front mid new.pages leaf.front);
       bound = elim t.left [
         | inl none ↦ omega (arith, same_size, t.counted, ap (λ (l : List Trunk). length (free_pages l)) none, pages_add_up p roots trees trunks whole)
         | inr same ↦ omega (arith, same_size, same)

@@ -12,6 +12,7 @@ use Rattle.tree_page.specs.declared.cell.PageCells.TheVariants.{Leaf as LeafPage
 use Rattle.tree_model.specs.Tree.{Tree, Leaf}
 use Rattle.tree_model.specs.Whole.{IsWholeFor, named_pages}
 use Rattle.tree_model.specs.Need.{use_of}
+use Rattle.tree_laws.specs.Front.{FreelistFront}
 use Rattle.tree_laws.specs.Whole.{StaysUnnamed, missing_in}
 use Rattle.tree_model.specs.Held.{HasCells}
 
@@ -62,6 +63,8 @@ pub record IsRootAdded (old new : Pages) (number : ℕ) (roots : List ℕ) (tree
       → StaysUnnamed old new (named_pages (roots ++ number ∷ []) (trees ++ Leaf number [] ∷ []) (take_each 1 trunks)) n
   pub none_lost : (n : ℕ) → HasPage new n → ¬ (Among (named_pages (roots ++ number ∷ []) (trees ++ Leaf number [] ∷ []) (take_each 1 trunks)) n)
       → HasPage old n × ¬ (Among (named_pages roots trees trunks) n)
+  -- of the header of the database the freelist alone has changed
+  pub front : FreelistFront old new
   pub bound : new.size ≤ max old.size (length (missing_in (named_pages roots trees trunks) old.size) + use_of roots trees + 1)
 
 -- over whole pages, whichever roots and trees they have, there is one root more; of any pages there are no fewer

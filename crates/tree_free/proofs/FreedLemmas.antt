@@ -12,6 +12,7 @@ use Rattle.tree_model.specs.Laws.{OneTree}
 use Rattle.tree_model.proofs.WholeLemmas.{one_named}
 use Rattle.tree_laws.specs.Whole.{AreUnnamed, WholeGives}
 use Rattle.tree_laws.proofs.CountLemmas.{tally, tally_all}
+use Rattle.tree_laws.proofs.KeptLemmas.{head_front}
 use Rattle.tree_laws.proofs.RangeLemmas.{in_both}
 use Rattle.tree_laws.proofs.RootLemmas.{removed_count, root_removed}
 use Rattle.tree_free.specs.Free.{TreeFreed, IsRootFreed, RemovesRoot}
@@ -107,6 +108,7 @@ root_freed gives whole_gives page_size pages front back root before behind tree 
       };
       none_lost = λ n has none. (record { least = has.least; most = omega (arith, has.most, given.size) }, λ named. none (omega (arith, named, counts n)));
       size = given.size;
+      front = head_front pages new given.leaves.first sized.least;
     }
 
 pub removes_root : GivesEach → WholeGives → OneTree → (old new : SpaceState) (root : ℕ) → IsTrue old.tells → HasSizes old → root ≢ 1 → TreeFreed old new root

@@ -17,6 +17,7 @@ use Rattle.tree_model.specs.Walk.{IsFault, BreaksChain, FailsChain, all_children
 use Rattle.tree_model.specs.declared.ends.Fault.{Fault}
 use Rattle.tree_model.specs.declared.ends.Fault.TheVariants.{Broken}
 use Rattle.tree_search.specs.Search.{SearchRefused, IsNoDamage}
+use Rattle.tree_laws.specs.Front.{FreelistFront}
 use Rattle.tree_laws.specs.Whole.{StaysUnnamed}
 
 -- no leaf lies deeper than so many pages, the top counted
@@ -80,15 +81,17 @@ TreeRefused old new root fault = (Stays old new × SearchRefused old new (FreeMe
 
 -- Of whole pages: they are whole for the other roots, whose trees are the same; the freelist has the pages of the tree more; and what
 -- nothing named stays as it was
-pub record IsRootFreed (old new : Pages) (front back : List ℕ) (root : ℕ) (before behind : List Tree) (tree : Tree) (trunks : List Trunk) : Type 0 where
+pub record IsRootFreed (old new : Pages) (ahead after : List ℕ) (root : ℕ) (before behind : List Tree) (tree : Tree) (trunks : List Trunk) : Type 0 where
   pub trunks' : List Trunk
-  pub whole : IsWholeFor new (front ++ back) (before ++ behind) trunks'
+  pub whole : IsWholeFor new (ahead ++ after) (before ++ behind) trunks'
   pub more_free : length (free_pages trunks') ≡ length (free_pages trunks) + length (pages_of tree)
-  pub unnamed : (n : ℕ) → HasPage old n → ¬ (Among (named_pages (front ++ root ∷ back) (before ++ tree ∷ behind) trunks) n) →
-      StaysUnnamed old new (named_pages (front ++ back) (before ++ behind) trunks') n
-  pub none_lost : (n : ℕ) → HasPage new n → ¬ (Among (named_pages (front ++ back) (before ++ behind) trunks') n) →
-      HasPage old n × ¬ (Among (named_pages (front ++ root ∷ back) (before ++ tree ∷ behind) trunks) n)
+  pub unnamed : (n : ℕ) → HasPage old n → ¬ (Among (named_pages (ahead ++ root ∷ after) (before ++ tree ∷ behind) trunks) n) →
+      StaysUnnamed old new (named_pages (ahead ++ after) (before ++ behind) trunks') n
+  pub none_lost : (n : ℕ) → HasPage new n → ¬ (Among (named_pages (ahead ++ after) (before ++ behind) trunks') n) →
+      HasPage old n × ¬ (Among (named_pages (ahead ++ root ∷ after) (before ++ tree ∷ behind) trunks) n)
   pub size : new.size ≡ old.size
+  -- of the header of the database the freelist alone has changed
+  pub front : FreelistFront old new
 
 -- whichever roots and trees they have
 abbrev pub RemovesRoot : Pages → Pages → ℕ → Type 0

@@ -4,6 +4,7 @@ pub mod RangeLemmas
 pub mod RootLemmas
 pub mod CountLemmas
 pub mod TakeLemmas
+pub mod KeptLemmas
 pub mod SizeLemmas
 pub mod ReplaceLemmas
 pub mod NeedLemmas

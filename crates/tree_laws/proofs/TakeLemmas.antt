@@ -21,10 +21,10 @@ use Rattle.tree_laws.proofs.FrontLemmas.{whole_front}
 use Rattle.tree_laws.proofs.RangeLemmas.{used_there}
 
 -- where no more of page 1 changes than the head of the freelist, the fields of its header stay
-byte_before : (a b : List ℕ) (k : ℕ) → take 32 a ≡ take 32 b → k < 32 → slice_index a k ≡ slice_index b k
+pub byte_before : (a b : List ℕ) (k : ℕ) → take 32 a ≡ take 32 b → k < 32 → slice_index a k ≡ slice_index b k
 byte_before a b k same within = sym (get_or-take 32 a k 0 within) ∙ ap (λ (l : List ℕ). slice_index l k) same ∙ get_or-take 32 b k 0 within
 
-byte_after : (usable : ℕ) (a b : List ℕ) (k : ℕ) → drop 40 (take usable a) ≡ drop 40 (take usable b) → 40 ≤ k → k < usable → slice_index a k ≡ slice_index b k
+pub byte_after : (usable : ℕ) (a b : List ℕ) (k : ℕ) → drop 40 (take usable a) ≡ drop 40 (take usable b) → 40 ≤ k → k < usable → slice_index a k ≡ slice_index b k
 byte_after usable a b k same behind within = one a ∙ ap (λ (l : List ℕ). slice_index l (k - 40)) same ∙ sym (one b)
   where
     one : (l : List ℕ) → slice_index l k ≡ slice_index (drop 40 (take usable l)) (k - 40)

@@ -1,7 +1,8 @@
 //! Laws of page 1.
 
-ghost use Rattle.tree_laws.specs.Front.{HeaderStays, HeaderSize, WholeFront};
+ghost use Rattle.tree_laws.specs.Front.{HeaderStays, HeaderSize, WholeFront, FrontKept};
 
+use page_list::{gives_keep, takes_keep};
 use tree_page::front_apart;
 
 /// The header is accepted as before where only its counter, size, freelist, cookie and version change.
@@ -19,4 +20,13 @@ pub fn whole_front()
     ensures { WholeFront }
 {
     front_apart();
+}
+
+/// Takes and gives change no more of the header than the first trunk and the count of free pages, so it says the same change
+/// counter, schema cookie and page size.
+pub fn front_kept()
+    ensures { FrontKept }
+{
+    takes_keep();
+    gives_keep();
 }

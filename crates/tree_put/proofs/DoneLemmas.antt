@@ -1,5 +1,5 @@
 -- A put keeps pages whole.
-use Rattle.std.proofs.Common.{◌≡◌, ◌⊎◌, ◌↔◌, inl, inr, ℕ, zero, suc, ◌+◌, ◌*◌, ◌≤◌, max, Bool, ℤ, ◌<ℤ◌, ◌≤ℤ◌, reverse, List, ◌∷◌, ◌++◌, length, map, drop, is_some, IsTrue, refl}
+use Rattle.std.proofs.Common.{◌≡◌, ◌⊎◌, ◌↔◌, inl, inr, ℕ, zero, suc, ◌+◌, ◌*◌, ◌≤◌, max, Bool, ℤ, ◌<ℤ◌, ◌≤ℤ◌, reverse, List, ◌∷◌, ◌++◌, length, map, drop, is_some, IsTrue, refl, []}
 use Rattle.std.proofs.Common.{sym, ap, subst, ◌∙◌, arith, length-append}
 use Rattle.std.proofs.lemmas.List.{take-append-drop}
 use Rattle.std.specs.List.{flat_map}
@@ -10,7 +10,7 @@ use Rattle.page_list.specs.Freelist.{Trunk, free_pages, take_each}
 use Rattle.page_list.specs.Edits.{taken_numbers, after_takes}
 use Rattle.page_list.specs.Chain.{IsChain}
 use Rattle.page_list.proofs.EditLemmas.{same-on}
-use Rattle.page_list.proofs.TimesLemmas.{times-append, among-back}
+use Rattle.page_list.proofs.TimesLemmas.{times-append, among-back, same_or_other, times_one}
 use Rattle.tree_page.specs.declared.cell.LeafCell.{LeafCell}
 use Rattle.tree_page.specs.Laws.{FrontApart}
 use Rattle.tree_page.specs.Page.{OnePage}
@@ -21,13 +21,14 @@ use Rattle.tree_model.specs.Laws.{shown, row_at}
 use Rattle.tree_model.specs.Need.{use_of}
 use Rattle.tree_model.specs.declared.ends.PathEnd.TheVariants.{HasPayload}
 use Rattle.tree_model.proofs.OthersLemmas.{split_named}
-use Rattle.tree_model.proofs.WholeLemmas.{flat_append}
+use Rattle.tree_model.proofs.WholeLemmas.{flat_append, root_named}
 use Rattle.tree_plan.specs.Plan.{cell_of, IsLeafPlan}
 use Rattle.tree_run.specs.Edit.{chain_at}
 use Rattle.tree_plan.specs.Climb.{AreClimbed}
 use Rattle.tree_laws.specs.Whole.{missing_in}
 use Rattle.tree_laws.proofs.CountLemmas.{tally, tally_all, pages_add_up}
 use Rattle.tree_laws.proofs.DeepLemmas.{whole_one}
+use Rattle.tree_laws.proofs.KeptLemmas.{front_steps, header_front}
 use Rattle.tree_laws.proofs.RangeLemmas.{named_there}
 use Rattle.tree_put.specs.Way.{IsWay}
 use Rattle.tree_put.specs.Puts.{IsClimb}
@@ -63,6 +64,10 @@ use_least roots before behind tree =
       length-append (flat_map pages_of before) (flat_map pages_of (tree ∷ behind)),
       length-append (pages_of tree) (flat_map pages_of behind),
     )
+
+tight_most : (new old unnamed uses uses' added size : ℕ) → new ≡ size → (size ≡ old) ⊎ (size ≡ added + uses + unnamed) → added + 1 ≤ uses' → new + 1 ≤ max (old + 1) (unnamed + uses + uses')
+tight_most new old unnamed uses uses' added size is (inl same) less = omega (arith, is, same)
+tight_most new old unnamed uses uses' added size is (inr more) less = omega (arith, is, more, less)
 
 at_most : (new old unnamed uses uses' added free size : ℕ) → new ≡ size → (size ≡ old) ⊎ (size ≡ added + uses + unnamed) → added ≤ uses' → new ≤ max old (unnamed + uses + uses')
 at_most new old unnamed uses uses' added free size is (inl same) less = omega (arith, is, same)
@@ -135,6 +140,17 @@ put_done front_apart front one_page page_size old new root payload replaced root
     (λ n. omega (arith, now n, k.gone_few n, times-append n chain_pages taken))
     (λ n some. let there = named_there d.written roots (before ++ tree' ∷ behind) left w.whole n (omega (arith, some, split_named roots before behind tree' left n)) in
     record { least = there.least; most = omega (arith, there.most, write.size) }) in
+    let top : ℕ = root_of tree in
+    let top_there : Among (pages_of tree') top = subst (Among (pages_of tree')) w.put.whole.rooted (root_named tree') in
+    let top_old : times top (chain_pages ++ taken) ≡ 0 = omega (arith, p.once top, root_named tree, times-append top chain_pages taken) in
+    let with_root : suc (length (chain_pages ++ taken)) ≤ length (pages_of tree') = no_longer grown (top ∷ (chain_pages ++ taken)) (pages_of tree')
+    (λ n. elim (same_or_other n top) [
+      | inl same ↦ subst (λ m. times m (top ∷ (chain_pages ++ taken)) ≤ times m (pages_of tree')) same.0
+          (omega (arith, top_there, top_old, times-append top (top ∷ []) (chain_pages ++ taken), times_one top top))
+      | inr other ↦ omega (arith, other.1, now n, k.gone_few n, times-append n chain_pages taken, times-append n (top ∷ []) (chain_pages ++ taken))
+    ])
+    (λ n some. let there = named_there d.written roots (before ++ tree' ∷ behind) left w.whole n (omega (arith, some, split_named roots before behind tree' left n)) in
+    record { least = there.least; most = omega (arith, there.most, write.size) }) in
     let many : length (chain_pages ++ taken) ≡ chain_count old rest + d.count =
     omega (arith, length-append chain_pages taken, as_many_taken page_size (chain_count old rest) old, as_many_taken page_size d.count d.chained) in
     let full : (grown.size ≡ old.size) ⊎ (grown.size ≡ (chain_count old rest + d.count) + use_of roots trees + length
@@ -162,9 +178,12 @@ put_done front_apart front one_page page_size old new root payload replaced root
       none_lost = λ n there not_named.
           let has_it : HasPage grown n = record { least = there.least; most = omega (arith, there.most, sizes) } in
           p.were_new n has_it (omega (arith, not_named, now n, g.free n, k.gone_is n, k.gone_few n, split_named roots before behind tree' g.trunks' n));
+      front = front_steps old grown new p.front (front_steps grown d.written new (header_front grown d.written write.front) g.front);
       no_fewer = omega (arith, sizes, p.no_fewer);
       bound = at_most new.size old.size (length (missing_in (named_pages roots trees trunks) old.size)) (use_of roots trees) (use_of roots (before ++ tree' ∷ behind))
           (chain_count old rest + d.count) 0 grown.size sizes full (omega (arith, added, many, use_least roots before behind tree'));
+      tight = tight_most new.size old.size (length (missing_in (named_pages roots trees trunks) old.size)) (use_of roots trees) (use_of roots (before ++ tree' ∷ behind))
+          (chain_count old rest + d.count) grown.size sizes full (omega (arith, with_root, many, use_least roots before behind tree'));
     }
 
 pub put_keeps_whole : FrontApart → HeaderInFront → OnePage → PutKeepsWhole

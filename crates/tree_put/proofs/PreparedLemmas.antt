@@ -19,6 +19,8 @@ use Rattle.tree_model.specs.Laws.{Keeps}
 use Rattle.tree_model.proofs.StayLemmas.{chain_stays}
 use Rattle.tree_model.proofs.OthersLemmas.{others, split_named}
 use Rattle.tree_model.proofs.WholeLemmas.{one_named, whole_stays}
+use Rattle.tree_laws.specs.Front.{FreelistFront}
+use Rattle.tree_laws.proofs.KeptLemmas.{front_steps, head_front, same_front}
 use Rattle.tree_laws.proofs.TakeLemmas.{not_too_long}
 use Rattle.tree_put.specs.Keeps.{IsChained}
 use Rattle.tree_put.proofs.TookLemmas.{takes_mono, as_many_taken, none_after, Took, took}
@@ -63,6 +65,7 @@ pub record HasChain (page_size : ℕ) (old new : Pages) (rest : List ℕ) (first
   pub size : new.size ≡ (after_takes page_size (chain_count old rest) old).size
   pub used : new.usable ≡ old.usable
   pub only : (n : ℕ) → ¬ (Among (chain_numbers page_size old rest) n) → SamePage (after_takes page_size (chain_count old rest) old) new n
+  pub front : FreelistFront old new
 
 pub has_chain : FrontApart → (page_size : ℕ) (old new : Pages) (rest : List ℕ) (first : ℕ) (roots : List ℕ) (trees : List Tree) (trunks : List Trunk) → IsPageSize page_size
     → page_size ≤ old.usable + 255
@@ -102,6 +105,8 @@ has_chain front_apart page_size old new rest first roots trees trunks size spare
       size = size_is;
       used = used_is ∙ first_took.many.leaves.used;
       only = only;
+      front = front_steps old mid new (head_front old mid first_took.many.leaves.first sized.least)
+          (same_front mid new (only 1 (λ some. omega (arith, (first_took.unnamed.each 1 some).0))));
     }
 
 -- and the pages for the parts are taken
@@ -120,6 +125,7 @@ pub record Prepared (page_size count : ℕ) (old mid : Pages) (rest : List ℕ) 
   pub were_new : (n : ℕ) → HasPage (after_takes page_size count mid) n
       → others roots before behind left n + times n (pages_of tree) + times n (chain_numbers page_size old rest) + times n (taken_numbers page_size count mid) ≡ 0
       → HasPage old n × ¬ (Among (named_pages roots (before ++ tree ∷ behind) trunks) n)
+  pub front : FreelistFront old (after_takes page_size count mid)
   pub no_fewer : old.size ≤ (after_takes page_size count mid).size
   pub counted : chain_count old rest + count + length (free_pages left) + old.size ≡ length (free_pages trunks) + (after_takes page_size count mid).size
   pub empty : (left ≡ []) ⊎ ((after_takes page_size count mid).size ≡ old.size)
@@ -228,6 +234,7 @@ prepared front_apart page_size count old mid rest first roots before behind tree
             },
             λ named. omega (arith, named, was0 n, same0, same1, none),
           );
+      front = front_steps old mid new c.front (head_front mid new then_took.many.leaves.first mid_sized.least);
       no_fewer = omega (arith, first_took.many.no_fewer, c.size, grows);
       counted = omega (arith, first_took.counted, then_took.counted, c.size);
       empty = elim first_took.left [

@@ -30,7 +30,9 @@ use Rattle.tree_plan.specs.declared.leaf.LeafPlan.{LeafPlan}
 use Rattle.tree_plan.specs.Plan.{cell_of}
 use Rattle.tree_run.specs.Edit.{chain_at}
 use Rattle.tree_plan.specs.Climb.{AreClimbed}
+use Rattle.tree_laws.specs.Front.{FreelistFront}
 use Rattle.tree_laws.proofs.DeepLemmas.{whole_one}
+use Rattle.tree_laws.proofs.KeptLemmas.{head_front, same_front}
 use Rattle.tree_laws.proofs.RangeLemmas.{named_there}
 use Rattle.tree_laws.proofs.ReplaceLemmas.{tree_replaced}
 use Rattle.tree_laws.proofs.TakeLemmas.{whole_gives}
@@ -153,6 +155,7 @@ pub record Given (old new : Pages) (roots : List ℕ) (trees : List Tree) (trunk
   pub size : new.size ≡ old.size
   pub free : (n : ℕ) → times n (free_pages trunks') ≡ times n (free_pages trunks) + times n gone
   pub others_stay : (n : ℕ) → n ≢ 1 → ¬ (Among (free_pages trunks) n) → ¬ (Among gone n) → SamePage old new n
+  pub front : FreelistFront old new
 
 none_given : (old new : Pages) (roots : List ℕ) (trees : List Tree) (trunks : List Trunk) (gone : List ℕ) → IsWholeFor old roots trees trunks → gone ≡ [] → new ≡ old
     → Given old new roots trees trunks gone
@@ -166,6 +169,7 @@ none_given old new roots trees trunks gone whole none same =
       size = ap (λ (p : Pages). p.size) same;
       free = λ n. omega (arith, ap (times n) none);
       others_stay = λ n other free_not gone_not. stays n;
+      front = same_front old new (stays 1);
     }
 
 -- the pages of the old chain are those that are given back
@@ -190,6 +194,7 @@ freed_given front_apart page_size old new roots trees trunks gone first len byte
       size = gives.size;
       free = λ n. omega (arith, gives.count n);
       others_stay = gives.leaves.others;
+      front = head_front old _ gives.leaves.first sized.least;
     } in
     subst G (sym (freed.pages_are ∙ ap (λ (l : List ℕ). after_gives page_size l old) same)) made
   where

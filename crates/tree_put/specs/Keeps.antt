@@ -19,6 +19,7 @@ use Rattle.tree_model.specs.Laws.{shown, row_at}
 use Rattle.tree_model.specs.Need.{use_of}
 use Rattle.tree_model.specs.declared.level.Level.{Level}
 use Rattle.tree_model.specs.declared.ends.PathEnd.TheVariants.{HasPayload}
+use Rattle.tree_laws.specs.Front.{FreelistFront}
 use Rattle.tree_laws.specs.Whole.{StaysUnnamed, missing_in}
 use Rattle.page_cut.specs.declared.parts.Sheet.{Sheet}
 use Rattle.tree_level.specs.Level.{numbers}
@@ -124,8 +125,13 @@ pub record IsPut (old new : Pages) (roots : List ℕ) (before : List Tree) (tree
   -- and no page is lost: nothing named before what nothing names then
   pub none_lost : (n : ℕ) → HasPage new n → ¬ (Among (named_pages roots (before ++ tree' ∷ behind) trunks') n) →
       HasPage old n × ¬ (Among (named_pages roots (before ++ tree ∷ behind) trunks) n)
+  -- of the header of the database the freelist alone has changed
+  pub front : FreelistFront old new
   pub no_fewer : old.size ≤ new.size
   pub bound : new.size ≤ max old.size (length (missing_in (named_pages roots (before ++ tree ∷ behind) trunks) old.size)
+      + use_of roots (before ++ tree ∷ behind) + use_of roots (before ++ tree' ∷ behind))
+  -- nor more than with the root of the tree counted once: it is the same page before and after
+  pub tight : new.size + 1 ≤ max (old.size + 1) (length (missing_in (named_pages roots (before ++ tree ∷ behind) trunks) old.size)
       + use_of roots (before ++ tree ∷ behind) + use_of roots (before ++ tree' ∷ behind))
 
 abbrev pub PutKeepsWhole : Type 0

@@ -30,10 +30,12 @@ use Rattle.tree_run.proofs.PutLemmas.{by_place, passed}
 use Rattle.tree_level.specs.Level.{numbers}
 use Rattle.page_cut.specs.declared.parts.Sheet.{Sheet}
 use Rattle.tree_plan.specs.Plan.{cell_of}
+use Rattle.tree_laws.specs.Front.{FreelistFront}
 use Rattle.tree_laws.specs.Whole.{missing_in}
 use Rattle.tree_laws.proofs.CountLemmas.{tally, tally_all, pages_add_up}
 use Rattle.tree_laws.proofs.DeepLemmas.{whole_one}
 use Rattle.tree_laws.proofs.FrontLemmas.{top_count}
+use Rattle.tree_laws.proofs.KeptLemmas.{front_steps, header_front, same_front}
 use Rattle.tree_laws.proofs.RangeLemmas.{named_there}
 use Rattle.tree_laws.proofs.ReplaceLemmas.{tree_replaced}
 use Rattle.tree_search.specs.declared.path.Descent.{Descent}
@@ -144,6 +146,7 @@ none_removed one_page page_size old root key roots before behind tree trunks d w
       told = told;
       unnamed = λ n there not_named. record { unnamed = not_named; same = stays n };
       none_lost = λ n there not_named. (there, not_named);
+      front = same_front old old (stays 1);
       no_fewer = omega arith;
       bound = omega arith;
     }
@@ -184,6 +187,7 @@ record GivenBack (old new : Pages) (roots : List ℕ) (before : List Tree) (tree
   size : new.size ≡ old.size
   named : (n : ℕ) → times n (named_pages roots (before ++ tree' ∷ behind) trunks') ≡ others roots before behind trunks n + times n (pages_of tree') + times n gone
   stays : (n : ℕ) → n ≢ 1 → others roots before behind trunks n + times n (pages_of tree) + times n taken ≡ 0 → SamePage old new n
+  kept : FreelistFront old new
 
 abbrev pub Apart : List ℕ → List Tree → List Tree → Tree → List Trunk → List ℕ → Type 0
 Apart roots before behind tree trunks taken = (n : ℕ) → others roots before behind trunks n + times n (pages_of tree) + times n taken ≤ 1
@@ -319,6 +323,7 @@ given_back front_apart front page_size old new given end roots before behind tre
           (first.given.others_stay n differs (λ free. omega (arith, free, none)) (λ all_too. omega (arith, all_too, none, times-append n chain all, t.gone_few n)))
           (second.others_stay n differs (λ free. omega (arith, free, none, first.given.free n, times-append n chain all, t.gone_few n))
           (λ chain_too. omega (arith, chain_too, row.same n, none, times-append n chain all, t.gone_few n))));
+      kept = front_steps old new end (header_front old new t.front) (front_steps new given end first.given.front second.front);
     }
 
 -- what is shrunk, on the pages with those that were taken
@@ -431,6 +436,7 @@ row_removed front_apart front one_page page_fits page_size old new root key root
       none_lost = λ n there not_named.
           let has_it : HasPage grown n = record { least = there.least; most = omega (arith, there.most, g.size) } in
           p.were_new n has_it ((counts n).1 (omega (arith, not_named)) (ap (λ count. times n (taken_numbers page_size count old)) none_used));
+      front = front_steps old grown new p.front g.kept;
       no_fewer = omega (arith, g.size, p.no_fewer);
       bound = at_most new.size old.size (length (missing_in (named_pages roots trees trunks) old.size)) (use_of roots trees) (use_of roots trees') w.count grown.size g.size full
           (omega (arith, added, as_many_taken page_size w.count old, use_least roots before behind tree'));

@@ -12,6 +12,7 @@ use Rattle.tree_page.specs.declared.cell.LeafCell.{LeafCell}
 use Rattle.tree_page.specs.Laws.{FrontApart}
 use Rattle.tree_model.specs.Tree.{Tree}
 use Rattle.tree_model.specs.Whole.{IsWholeFor, named_pages}
+use Rattle.tree_laws.proofs.KeptLemmas.{head_front}
 use Rattle.tree_laws.proofs.TakeLemmas.{whole_gives}
 use Rattle.tree_put.specs.Keeps.{IsGiven}
 use Rattle.tree_put.proofs.PreparedLemmas.{none_needed}
@@ -42,6 +43,7 @@ gave front_apart page_size old roots trees trunks gone sized whole different eac
         size = gives.size;
         free = λ n. omega (arith, gives.count n);
         others_stay = gives.leaves.others;
+        front = head_front old _ gives.leaves.first sized.least;
       };
       sized = record {
         least = omega (arith, sized.least, gives.leaves.used);

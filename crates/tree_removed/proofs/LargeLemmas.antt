@@ -1,5 +1,5 @@
 -- How many pages a removal needs at most.
-use Rattle.std.proofs.Common.{◌≡◌, ◌⊎◌, inl, inr, ℕ, ◌+◌, ◌*◌, ◌≤◌, ◌<◌, ℤ, List, [], ◌∷◌, ◌++◌, length, map, reverse, refl, sym, ap, subst, ◌∙◌, arith}
+use Rattle.std.proofs.Common.{◌≡◌, inl, inr, ℕ, ◌+◌, ◌*◌, ◌≤◌, ℤ, List, [], ◌∷◌, ◌++◌, length, map, sym, ap, subst, ◌∙◌, arith}
 use Rattle.std.proofs.lemmas.List.{length-map, length-reverse}
 use Rattle.db_format.specs.Header.{greatest_length}
 use Rattle.page_list.specs.Pages.{Pages}
@@ -8,13 +8,11 @@ use Rattle.page_list.specs.Edits.{after_takes}
 use Rattle.tree_page.specs.declared.cell.LeafCell.{LeafCell}
 use Rattle.tree_page.specs.Laws.{FrontApart}
 use Rattle.tree_page.specs.Page.{OnePage}
-use Rattle.tree_model.specs.Tree.{Row, Tree, Leaf, root_of, rows_of}
-use Rattle.tree_model.specs.Whole.{below_all, greatest, IsWholeTree, IsWholeFor, named_pages}
+use Rattle.tree_model.specs.Tree.{Row, Tree, Leaf, rows_of}
+use Rattle.tree_model.specs.Whole.{below_all, greatest, IsWholeTree}
 use Rattle.tree_model.specs.Laws.{shown}
-use Rattle.tree_model.specs.Need.{use_of}
 use Rattle.tree_model.specs.declared.level.Level.{Level}
 use Rattle.tree_model.proofs.IntLemmas.{le_is, not_le_is, by_le}
-use Rattle.tree_laws.specs.Whole.{missing_in}
 use Rattle.tree_laws.proofs.CountLemmas.{pages_add_up}
 use Rattle.tree_laws.proofs.DeepLemmas.{whole_one}
 use Rattle.tree_put.specs.Way.{Beside, tree_over, IsWay}
@@ -22,7 +20,7 @@ use Rattle.tree_put.proofs.WayLemmas.{way_from, held_from}
 use Rattle.tree_put.proofs.TookLemmas.{took}
 use Rattle.tree_put.proofs.LargeLemmas.{no_trunk, rows_over, leaf_some}
 use Rattle.tree_removed.specs.Keeps.{without_shown}
-use Rattle.tree_removed.specs.Large.{need_without, RemovalStops, RemoveMayBeLarge}
+use Rattle.tree_removed.specs.Large.{RemoveMayBeLarge}
 
 -- at most one row is taken out
 without_long : (key : ℤ) (rows : List (ℤ × List ℕ)) → length rows ≤ length (without_shown key rows) + 1

@@ -10,6 +10,7 @@ use Rattle.tree_model.specs.Whole.{below_all, greatest, IsWholeFor, named_pages}
 use Rattle.tree_model.specs.Laws.{shown, row_at}
 use Rattle.tree_model.specs.Need.{use_of}
 use Rattle.tree_model.specs.declared.ends.PathEnd.TheVariants.{HasPayload}
+use Rattle.tree_laws.specs.Front.{FreelistFront}
 use Rattle.tree_laws.specs.Whole.{StaysUnnamed, missing_in}
 use Rattle.tree_remove.specs.Remove.{RemoveDone}
 
@@ -44,6 +45,8 @@ pub record IsRemoved (old new : Pages) (roots : List ℕ) (before : List Tree) (
   -- and no page is lost: nothing named before what nothing names then
   pub none_lost : (n : ℕ) → HasPage new n → ¬ (Among (named_pages roots (before ++ tree' ∷ behind) trunks') n) →
       HasPage old n × ¬ (Among (named_pages roots (before ++ tree ∷ behind) trunks) n)
+  -- of the header of the database the freelist alone has changed
+  pub front : FreelistFront old new
   pub no_fewer : old.size ≤ new.size
   pub bound : new.size ≤ max old.size (length (missing_in (named_pages roots (before ++ tree ∷ behind) trunks) old.size)
       + use_of roots (before ++ tree ∷ behind) + use_of roots (before ++ tree' ∷ behind))

@@ -18,6 +18,7 @@ no_looser_over (Some page) old new sized h =
     record {
       now = ap (found_over (Some page)) h.now;
       tame = h.tame;
+      was_tame = h.was_tame;
       sure = h.sure;
       stop = λ tame. loosens_over page old new Anywhere old.shortest 0 some
           (record { pages = λ place is other from to. tt; lone = λ place is less short. omega (arith, some); whole = λ place is whole. whole })
@@ -87,6 +88,7 @@ write_failed_over (Some page) delicate old new off len sized at reach orderly h 
             );
         sure = k.sure;
         tame = λ tame sturdy inside. k.tame tame sturdy (omega (arith, inside, length_without page 0 old.now.bytes));
+        was_tame = k.was_tame;
         stop = λ tame tame'. loosens_over page old new (Beside off page) old.shortest (off + page) some (beside_by_page page old off some at.0 reach orderly) (k.stop tame tame');
       }
 
@@ -112,6 +114,7 @@ write_full_over (Some page) delicate old new off len sized at reach orderly h =
             same_fails page (place / page) new.now.bytes old.now.bytes some (record { each = λ other from to. (h.before other (omega (arith, to, b, reach)) (omega (arith, to, b))).0 }),
           );
       sure = h.sure;
+      was_tame = h.was_tame;
       stop = λ tame tame'. loosens_over page old new (λ place. place < off) old.shortest (off + len) some (before_by_page page old off (off + len) some at.0 reach orderly) (h.stop tame tame');
     }
 
@@ -137,6 +140,7 @@ cut_failed_over (Some page) old new len sized at reach h =
           same_fails page (place / page) new.now.bytes old.now.bytes some (record { each = λ other from to. h.bytes other (omega (arith, to, b, reach, h.no_shorter)) });
       sure = h.sure;
       tame = λ tame same. h.tame tame (omega (arith, same, length_without page 0 old.now.bytes));
+      was_tame = h.was_tame;
       stop = λ tame tame'. loosens_over page old new (λ place. place < len) (min old.shortest len) 0 some (cut_by_page page old len some at) (h.stop tame tame');
     }
 

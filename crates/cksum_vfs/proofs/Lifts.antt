@@ -224,7 +224,7 @@ sound_over (Some page) s sized h = record {
       let P : Found → Type 0 = IsImage (file_over (own_size (Some page) (kind_of name)) (s.files name)) in
       subst P (sym (shown_is page (kind_of name) (through s.layers i name)))
       (image_over (own_size (Some page) (kind_of name)) (s.files name) (through s.layers i name) (own_sized (Some page) (kind_of name) sized) (h.orderly name) (h.images i device name tame));
-  tame = λ none. h.tame none.1;
+  tame = λ name none. h.tame name none.1;
   unmarked = λ name none. unmarked_over page (kind_of name) (s.files name).now none.0 (h.unmarked name none.1);
 }
 

@@ -38,6 +38,7 @@ no_looser : (s : FileState) → NoLooser s s
 no_looser s = record {
   now = refl;
   tame = λ tame. tame;
+  was_tame = λ tame. tame;
   sure = λ sure. sure;
   stop = λ tame. record { kept = λ place is kept. kept; floor_is = omega arith; reach_is = omega arith };
 }

@@ -24,7 +24,7 @@ stands files handles faults apart = record {
     orderly = λ name. orderly (find (is_named name) files);
     shows = λ name tame. refl;
     images = λ i image name tame. image.image name;
-    tame = λ none name. search rules;
+    tame = λ name none. search rules;
     unmarked = λ name none place. search rules;
   };
   counted = λ _ fid name counted tame. refl;

@@ -26,6 +26,7 @@ pub looser_same : (s : FileState) → NoLooser s s
 looser_same s = record {
   now = refl;
   tame = λ tame. tame;
+  was_tame = λ tame. tame;
   sure = λ h. h;
   stop = λ _. record { kept = λ place any kept. kept; floor_is = omega arith; reach_is = omega arith };
 }

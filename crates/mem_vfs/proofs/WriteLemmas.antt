@@ -71,6 +71,7 @@ written old new off bytes reach room h =
         );
         sure = λ sure. h.sure ∙ sure;
         tame = λ _ _ _. refl;
+        was_tame = λ _. refl;
         stop = λ _ _. record {
           kept = λ place beside kept. record { tame = refl; below = omega (arith, h.shortest, kept.below); synced = beside_mark old new off bytes place reach room h beside ∙ kept.synced };
           floor_is = omega (arith, h.shortest);

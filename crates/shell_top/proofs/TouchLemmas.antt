@@ -2,6 +2,7 @@ use Rattle.std.proofs.Common.{◌≡◌, ℕ, ◌≤◌, List, [], length, IsTru
 use Rattle.vfs_model.specs.File.{FileState}
 use Rattle.vfs_model.specs.Effect.{NoLooser, OpenFailed, Closed}
 use Rattle.vfs_model.specs.Store.{OthersStay}
+use Rattle.vfs_model.specs.Name.{kind_of}
 use Rattle.vfs_model.specs.Sound.{MakesNoneWild, Each}
 use Rattle.vfs_model.specs.Laws.{LooserTwice}
 use Rattle.vfs_model.specs.declared.layer.Layer.{Layer}
@@ -19,6 +20,7 @@ pub no_looser_same : (file : FileState) → NoLooser file file
 no_looser_same file = record {
   now = refl;
   tame = λ is. is;
+  was_tame = λ is. is;
   sure = λ is. is;
   stop = λ tame. record { kept = λ place any kept. kept; floor_is = omega arith; reach_is = omega arith };
 }
@@ -111,8 +113,8 @@ closed_leaves name table open_table closed_table old new stands is same shows le
     let kept : TableStands name (Some closed_table) old = subst P (is ∙ ap (λ t. Some t) (sym same)) stands in
     let Q : List ℕ → Type 0 = λ n. Leaves old new n Closed in
     let closed : Leaves old new name Closed = subst Q (ap (λ o. unwrap_or o []) kept.0) left in
-    let E : List Layer → Type 0 = λ layers. Each MakesNoneWild layers in
+    let E : List Layer → Type 0 = λ layers. Each (MakesNoneWild (kind_of name)) layers in
     record {
-      file = λ told. (closed.file told).tame ((shows.sound told).tame (subst E (sym kept.1.bare) tt) name);
+      file = λ told. (closed.file told).tame ((shows.sound told).tame name (subst E (sym kept.1.bare) tt));
       others = closed.others;
     }

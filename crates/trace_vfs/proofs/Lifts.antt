@@ -201,7 +201,7 @@ sound_over (Some ring) s h = record {
   orderly = h.orderly;
   shows = h.shows;
   images = h.images;
-  tame = λ none. h.tame none.1;
+  tame = λ name none. h.tame name none.1;
   unmarked = λ name none. h.unmarked name none.1;
 }
 

@@ -1,18 +1,23 @@
 -- Names with decimal digits behind them, as chunks have them.
-use Rattle.std.proofs.Common.{◌≡◌, ◌⊎◌, inl, inr, ℕ, zero, suc, ◌-◌, ◌<◌, ◌^◌, Bool, true, false, ◌&&◌, List, [], ◌∷◌, ◌++◌, length, replicate, decimal, refl, sym, ap, ◌∙◌, subst, if◌then◌else◌, arith, get_or}
+use Rattle.std.proofs.Common.{◌≡◌, ◌≢◌, ◌⊎◌, inl, inr, ℕ, zero, suc, ◌+◌, ◌-◌, ◌≤◌, ◌<◌, ◌^◌, Bool, true, false, cond, ◌&&◌, nat_eq, IsTrue, take, codes, List, [], ◌∷◌, ◌++◌, length, replicate, decimal, refl, sym, ap, ◌∙◌, subst, append_assoc, if◌then◌else◌, arith, get_or}
 use Rattle.std.proofs.Common.{rules}
 use Rattle.std.specs.Char.{is_ascii_digit}
-use Rattle.std.specs.List.{list_all}
+use Rattle.std.specs.List.{list_all, ends_with, prefix_len, suffix_len}
 use Rattle.std.proofs.lemmas.Bool.{ne_eqb}
 use Rattle.std.proofs.lemmas.List.Folds.{list_all-append}
 use Rattle.std.proofs.lemmas.Fmt.{decimal_is_IsNumeral}
 use Rattle.std.proofs.lemmas.Str.Parse.{digit_at}
-use Rattle.std.proofs.lemmas.List.{append-nil}
+use Rattle.std.proofs.lemmas.List.{append-nil, length-append, reverse-append, take-append-le}
 use Rattle.vfs_model.specs.Store.{IsNumbered, Separate}
+use Rattle.vfs_model.specs.Name.{stem, has_part, kind_of}
 use Rattle.vfs_model.specs.View.{chunk_digits, chunk_name, most_chunks, IsChunkOf, ViewedFrom}
-use Rattle.vfs_model.proofs.SoundLemmas.{two}
+use Rattle.vfs_model.specs.declared.name.Kind.TheVariants.{Main, Journal, Super}
 use Rattle.vfs_model.specs.declared.layer.Layer.{Layer}
 use Rattle.vfs_model.specs.declared.layer.Layer.TheVariants.{Trace, Cksum, Append, Mux, Quota}
+
+-- separate names are two
+pub two : (name other : List ℕ) → Separate name other → name ≢ other
+two name other h same = let none : IsTrue (list_all is_ascii_digit []) = search rules in h.below ([], none, sym same ∙ sym (append-nil name))
 
 -- a text of decimal digits alone
 abbrev pub AreDigits : List ℕ → Type 0
@@ -89,6 +94,39 @@ of_number name (suc n) few = record {
 
 of_chunk : (name seen : List ℕ) → IsChunkOf name seen → Behind name seen
 of_chunk name seen h = subst (Behind name) (sym h.named) (of_number name h.number h.few)
+
+-- digits behind a text are behind its stem
+suffix_one : (name : List ℕ) (b : ℕ) → is_ascii_digit b ≡ true → suffix_len is_ascii_digit (name ++ b ∷ []) ≡ 1 + suffix_len is_ascii_digit name
+suffix_one name b h = ap (prefix_len is_ascii_digit) (reverse-append name (b ∷ [])) ∙ ap (λ yes. cond yes (1 + suffix_len is_ascii_digit name) 0) h
+
+suffix_digits : (digits name : List ℕ) → AreDigits digits → suffix_len is_ascii_digit (name ++ digits) ≡ length digits + suffix_len is_ascii_digit name
+suffix_digits [] name h = ap (suffix_len is_ascii_digit) (append-nil name) ∙ omega arith
+suffix_digits (b ∷ more) name h =
+    let one = suffix_one name b (left_true (is_ascii_digit b) (list_all is_ascii_digit more) h) in
+    let rest = suffix_digits more (name ++ b ∷ []) (right_true (is_ascii_digit b) (list_all is_ascii_digit more) h) in
+    ap (suffix_len is_ascii_digit) (sym (append_assoc name (b ∷ []) more)) ∙ omega (arith, one, rest)
+
+stem_stays : (name digits : List ℕ) → AreDigits digits → stem (name ++ digits) ≡ stem name
+stem_stays name digits h =
+    let behind = suffix_digits digits name h in
+    let few : length (name ++ digits) - suffix_len is_ascii_digit (name ++ digits) ≡ length name - suffix_len is_ascii_digit name = omega (arith, behind, length-append name digits) in
+    let within : length name - suffix_len is_ascii_digit name ≤ length name = omega arith in
+    ap (λ n. take n (name ++ digits)) few ∙ take-append-le (length name - suffix_len is_ascii_digit name) name digits within
+
+-- a name with digits behind it has the kind of the name
+kind_stays : (name digits : List ℕ) → AreDigits digits → kind_of (name ++ digits) ≡ kind_of name
+kind_stays name digits h = ap (λ s. if ends_with nat_eq s (codes "-journal") then Journal else (if has_part s (codes "-with-") then Super else Main)) (stem_stays name digits h)
+
+chunk_kind : (name seen : List ℕ) → Behind name seen → kind_of seen ≡ kind_of name
+chunk_kind name seen h = ap kind_of h.seen_is ∙ kind_stays name h.digits h.are
+
+-- a layer's view of a name makes use of files of its kind alone
+pub viewed_kind : (layer : Layer) (name seen : List ℕ) → ViewedFrom layer name seen → kind_of seen ≡ kind_of name
+viewed_kind Trace name seen viewed = ap kind_of viewed
+viewed_kind (Cksum page) name seen viewed = ap kind_of viewed
+viewed_kind Append name seen viewed = ap kind_of viewed
+viewed_kind (Mux chunk) name seen viewed = chunk_kind name seen (of_chunk name seen viewed)
+viewed_kind (Quota groups) name seen viewed = ap kind_of viewed
 
 no_chunk_of_both : (name other seen : List ℕ) → Separate name other → IsChunkOf name seen → IsChunkOf other seen → ⊥
 no_chunk_of_both name other seen h one next = neither (numbered name other (of_chunk name seen one).digits (of_chunk other seen next).digits

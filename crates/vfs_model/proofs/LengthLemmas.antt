@@ -7,7 +7,8 @@ use Rattle.std.proofs.lemmas.Bool.{eqb-true}
 use Rattle.vfs_model.specs.Store.{IsNumbered, Separate, Apart}
 use Rattle.vfs_model.specs.Pass.{OpenFile, OpenFiles, Lengths, same_name, rest_behind, is_chunk_of, only, each_only, of_file, others_of}
 use Rattle.vfs_model.proofs.ChunkLemmas.{left_true, right_true, numbered}
-use Rattle.vfs_model.proofs.SoundLemmas.{two, back}
+use Rattle.vfs_model.proofs.ChunkLemmas.{two}
+use Rattle.vfs_model.proofs.SoundLemmas.{back}
 use Rattle.vfs_model.specs.declared.layer.Layer.{Layer}
 use Rattle.vfs_model.specs.declared.layer.Layer.TheVariants.{Trace, Cksum, Append, Mux, Quota}
 

@@ -1,13 +1,11 @@
 -- Views and soundness.
-use Rattle.std.proofs.Common.{◌≡◌, ◌≢◌, ℕ, zero, suc, ◌+◌, ◌<◌, List, [], ◌∷◌, ◌++◌, refl, sym, ap, ◌∙◌, IsTrue, if◌then◌else◌, arith}
-use Rattle.std.proofs.Common.{rules}
-use Rattle.std.specs.Char.{is_ascii_digit}
-use Rattle.std.specs.List.{list_all}
-use Rattle.std.proofs.lemmas.List.{append-nil}
+use Rattle.std.proofs.Common.{◌≡◌, ℕ, zero, suc, ◌+◌, ◌<◌, List, [], ◌∷◌, ◌++◌, refl, sym, ap, ◌∙◌, subst, if◌then◌else◌, arith}
 use Rattle.vfs_model.specs.Store.{Store, Files, present, Separate, Apart}
 use Rattle.vfs_model.specs.Name.{kind_of}
 use Rattle.vfs_model.specs.View.{view, through, plain, of_main, summed, appended, chunk_name, chunk_then, bytes_from, most_chunks, ViewedFrom}
-use Rattle.vfs_model.specs.Sound.{Sound, OwnStep}
+use Rattle.vfs_model.specs.Sound.{Sound, OwnStep, Each, MakesNoneWild}
+use Rattle.vfs_model.proofs.ChunkLemmas.{two, viewed_kind}
+use Rattle.vfs_model.specs.declared.name.Kind.{Kind}
 use Rattle.vfs_model.specs.declared.layer.Layer.{Layer}
 use Rattle.vfs_model.specs.declared.layer.Layer.TheVariants.{Trace, Cksum, Append, Mux, Quota}
 
@@ -38,18 +36,19 @@ view_local (Mux chunk) f g name same =
     ap (λ h. plain h.there (bytes_from most_chunks chunk f name 0)) first ∙ ap (λ bytes. plain (g name).there bytes) rest
 view_local (Quota groups) f g name same = same name refl
 
+-- where no layer makes files of a name's kind wild, none makes those wild from which it is viewed
+none_of : (layer : Layer) (layers : List Layer) (name other : List ℕ) → ViewedFrom layer name other → Each (MakesNoneWild (kind_of name)) layers → Each (MakesNoneWild (kind_of other)) layers
+none_of layer layers name other viewed none =
+    let P : Kind → Type 0 = λ kind. Each (MakesNoneWild kind) layers in subst P (sym (viewed_kind layer name other viewed)) none
+
 pub sound_over : (layer : Layer) (layers : List Layer) (base below above : Store) → OwnStep layer below above → Sound layers base below → Sound (layer ∷ layers) base above
 sound_over layer layers base below above own sound = record {
   orderly = own.orderly;
   shows = λ name tame. own.shows name tame ∙ view_local layer (present below) (through layers (present base)) name (λ other viewed. sound.shows other (own.wild name other tame viewed));
   images = λ i device name tame. own.images (through layers i) name tame (λ other viewed. sound.images i device other (own.wild name other tame viewed));
-  tame = λ none name. own.tame none.0 name (λ other. sound.tame none.1 other);
+  tame = λ name none. own.tame name none.0 (λ other viewed. sound.tame other (none_of layer layers name other viewed none.1));
   unmarked = λ name none. own.unmarked name none.0 (sound.unmarked name none.1);
 }
-
--- separate names are two
-pub two : (name other : List ℕ) → Separate name other → name ≢ other
-two name other h same = let none : IsTrue (list_all is_ascii_digit []) = search rules in h.below ([], none, sym same ∙ sym (append-nil name))
 
 pub apart_of : (layers : List Layer) (name other : List ℕ) → Separate name other → Apart layers name other
 apart_of [] name other h = two name other h

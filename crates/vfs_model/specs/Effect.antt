@@ -23,11 +23,16 @@ pub record Loosens (old new : FileState) (stays : ℕ → Type 0) (floor reach :
 abbrev pub Surer : FileState → FileState → Type 0
 Surer old new = IsTrue old.sure → IsTrue new.sure
 
+-- a file that is not wild was not wild before: only a sync tames, and an opening or a closing
+abbrev pub WasTame : FileState → FileState → Type 0
+WasTame old new = new.wild ≡ false → old.wild ≡ false
+
 -- a read finds the file as before, and a stop may change no more than before. What was unsettled may be settled:
--- a layer may sync names in any call. Of a wild file a stop may leave anything, so that one may also become tame
+-- a layer may sync names in any call
 pub record NoLooser (old new : FileState) : Type 0 where
   pub now : new.now ≡ old.now
   pub tame : old.wild ≡ false → new.wild ≡ false
+  pub was_tame : WasTame old new
   pub sure : Surer old new
   pub stop : old.wild ≡ false → Loosens old new Anywhere old.shortest 0
 
@@ -40,6 +45,7 @@ pub record WriteFailed (delicate : Bool) (old new : FileState) (off len : ℕ) :
   pub beside : (place : ℕ) → place < length old.now.bytes → Beside off len place → Stays old.now new.now place
   pub sure : Surer old new
   pub tame : old.wild ≡ false → delicate ≡ false → off + len ≤ length old.now.bytes → new.wild ≡ false
+  pub was_tame : WasTame old new
   pub stop : old.wild ≡ false → new.wild ≡ false → Loosens old new (Beside off len) old.shortest (off + len)
 
 -- a write, done: beside that, the range holds the bytes, and no place of it is bad
@@ -56,6 +62,7 @@ pub record WriteFull (delicate : Bool) (old new : FileState) (off len : ℕ) : T
   pub size : length new.now.bytes ≡ length old.now.bytes
   pub before : (place : ℕ) → place < length old.now.bytes → place < off → Stays old.now new.now place
   pub sure : Surer old new
+  pub was_tame : WasTame old new
   pub stop : old.wild ≡ false → new.wild ≡ false → Loosens old new (λ place. place < off) old.shortest (off + len)
 
 -- a cut, failed: the length lies between, the bytes that are left stay, and so do the marks below the length asked for
@@ -67,6 +74,7 @@ pub record CutFailed (old new : FileState) (len : ℕ) : Type 0 where
   pub marks : (place : ℕ) → place < len → new.now.bad place ≡ old.now.bad place
   pub sure : Surer old new
   pub tame : old.wild ≡ false → length old.now.bytes ≤ len → new.wild ≡ false
+  pub was_tame : WasTame old new
   pub stop : old.wild ≡ false → new.wild ≡ false → Loosens old new (λ place. place < len) (min old.shortest len) 0
 
 -- a cut, done: beside that, the file has this length

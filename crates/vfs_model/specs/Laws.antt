@@ -3,6 +3,7 @@ use Rattle.std.specs.Prelude.{◌≡◌, ◌≢◌, ℕ, ◌+◌, ◌<◌, Bool,
 use Rattle.vfs_model.specs.File.{Found, FileState, IsOrderly, IsImage, IsSettled, SameFound}
 use Rattle.vfs_model.specs.Effect.{NoLooser, Wrote, Synced, NameSynced}
 use Rattle.vfs_model.specs.Store.{Store, Files, Separate, Apart}
+use Rattle.vfs_model.specs.Name.{kind_of}
 use Rattle.vfs_model.specs.View.{through, ViewedFrom}
 use Rattle.vfs_model.specs.Sound.{Sound, OwnStep}
 use Rattle.vfs_model.specs.Pass.{Lengths, of_file, others_of}
@@ -61,3 +62,7 @@ ViewsCompose = (above below : List Layer) (files : Files) → through (above ++ 
 -- no layer's views of separate names make use of the same file
 abbrev pub ViewedApart : Type 0
 ViewedApart = (layer : Layer) (name other seen : List ℕ) → Separate name other → ViewedFrom layer name seen → ViewedFrom layer other seen → ⊥
+
+-- a layer's view of a name makes use of files of its kind alone
+abbrev pub ViewedKind : Type 0
+ViewedKind = (layer : Layer) (name seen : List ℕ) → ViewedFrom layer name seen → kind_of seen ≡ kind_of name

@@ -13,23 +13,24 @@ use Rattle.vfs_model.specs.declared.layer.Layer.TheVariants.{Trace, Cksum, Appen
 abbrev pub IsUnmarked : Found → Type 0
 IsUnmarked f = (place : ℕ) → f.bad place ≡ false
 
--- the layer makes no file wild
-abbrev pub MakesNoneWild : Layer → Type 0
-MakesNoneWild Trace = Unit {0}
-MakesNoneWild (Cksum page) = Unit {0}
-MakesNoneWild Append = ⊥
-MakesNoneWild (Mux chunk) = Unit {0}
-MakesNoneWild (Quota groups) = Unit {0}
+-- the kind of journals and of super-journals
+abbrev pub IsOfJournals : Kind → Type 0
+IsOfJournals Main = ⊥
+IsOfJournals Journal = Unit {0}
+IsOfJournals Super = Unit {0}
+
+-- the layer makes no file of this kind wild: only an append layer does, databases
+abbrev pub MakesNoneWild : Kind → Layer → Type 0
+MakesNoneWild kind Trace = Unit {0}
+MakesNoneWild kind (Cksum page) = Unit {0}
+MakesNoneWild kind Append = IsOfJournals kind
+MakesNoneWild kind (Mux chunk) = Unit {0}
+MakesNoneWild kind (Quota groups) = Unit {0}
 
 -- the layer marks no place of a file of this kind as bad: only a checksum layer does, in databases
-abbrev pub MarksNoneOf : Kind → Type 0
-MarksNoneOf Main = ⊥
-MarksNoneOf Journal = Unit {0}
-MarksNoneOf Super = Unit {0}
-
 abbrev pub MarksNone : Kind → Layer → Type 0
 MarksNone kind Trace = Unit {0}
-MarksNone kind (Cksum page) = MarksNoneOf kind
+MarksNone kind (Cksum page) = IsOfJournals kind
 MarksNone kind Append = Unit {0}
 MarksNone kind (Mux chunk) = Unit {0}
 MarksNone kind (Quota groups) = Unit {0}
@@ -49,7 +50,7 @@ pub record Sound (layers : List Layer) (base files : Store) : Type 0 where
   pub orderly : AllOrderly files
   pub shows : (name : List ℕ) → (files name).wild ≡ false → (files name).now ≡ through layers (present base) name
   pub images : (i : Files) → IsDeviceImage base i → (name : List ℕ) → (files name).wild ≡ false → IsImage (files name) (through layers i name)
-  pub tame : Each MakesNoneWild layers → (name : List ℕ) → (files name).wild ≡ false
+  pub tame : (name : List ℕ) → Each (MakesNoneWild (kind_of name)) layers → (files name).wild ≡ false
   pub unmarked : (name : List ℕ) → Each (MarksNone (kind_of name)) layers → IsUnmarked (files name).now
 
 -- the same of one layer over the files directly below it: an image is shown of those names alone that it views
@@ -59,5 +60,5 @@ pub record OwnStep (layer : Layer) (below above : Store) : Type 0 where
   pub images : (i : Files) (name : List ℕ) → (above name).wild ≡ false → ((other : List ℕ) → ViewedFrom layer name other → IsImage (below other) (i other)) →
       IsImage (above name) (view layer i name)
   pub wild : (name other : List ℕ) → (above name).wild ≡ false → ViewedFrom layer name other → (below other).wild ≡ false
-  pub tame : MakesNoneWild layer → (name : List ℕ) → ((other : List ℕ) → (below other).wild ≡ false) → (above name).wild ≡ false
+  pub tame : (name : List ℕ) → MakesNoneWild (kind_of name) layer → ((other : List ℕ) → ViewedFrom layer name other → (below other).wild ≡ false) → (above name).wild ≡ false
   pub unmarked : (name : List ℕ) → MarksNone (kind_of name) layer → IsUnmarked (below name).now → IsUnmarked (above name).now

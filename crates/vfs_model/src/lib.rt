@@ -15,7 +15,8 @@ mod text;
 
 pub use laws::{
     apart_back, both_settle, empty_view, looser_twice, now_is_image, older_images, others_keep,
-    separate_apart, settled_stays, sound_above, viewed_apart, views_compose, written_stands,
+    separate_apart, settled_stays, sound_above, viewed_apart, viewed_kind, views_compose,
+    written_stands,
 };
 pub use layer::{Group, Groups, Layer};
 pub use level::{Fid, Level, Owner};

@@ -1,10 +1,13 @@
 -- What follows from the clauses, for layers that make several calls of the layer below in one of theirs, and for callers.
-use Rattle.std.specs.Prelude.{◌≡◌, ℕ, List, ◌∷◌, None}
+use Rattle.std.specs.Prelude.{◌≡◌, ℕ, false, List, ◌∷◌, None, IsTrue}
 use Rattle.byte_base.specs.Count.{Rose}
 use Rattle.vfs_model.specs.Stack.{IsPermitted}
+use Rattle.vfs_model.specs.Sound.{Each, MakesNoneWild}
+use Rattle.vfs_model.specs.Name.{kind_of}
+use Rattle.vfs_model.specs.declared.name.Kind.{Kind}
 use Rattle.vfs_model.specs.declared.layer.Layer.{Layer}
 use Rattle.vfs_model.specs.declared.layer.Layer.TheVariants.{Cksum}
-use Rattle.vfs_trait.specs.State.{StackState, Steady, Rests}
+use Rattle.vfs_trait.specs.State.{StackState, Steady, Rests, Stands}
 use Rattle.vfs_trait.specs.Calls.{FilesLeft, checked}
 use Rattle.vfs_trait.specs.Log.{Ring, RingsGrow}
 
@@ -28,3 +31,11 @@ RoseInTwo = (a b c : StackState) → Steady a b → Steady b c → ((Rose a.faul
 -- below a checksum layer of a permitted stack there is no other
 abbrev pub CheckedOnce : Type 0
 CheckedOnce = (page : ℕ) (layers : List Layer) → IsPermitted (Cksum page ∷ layers) → checked layers ≡ None
+
+-- where no layer makes files of its kind wild, a file is not wild
+abbrev pub NoneWild : Type 0
+NoneWild = (s : StackState) (name : List ℕ) → IsTrue s.tells → Stands s → Each (MakesNoneWild (kind_of name)) s.layers → (s.files name).wild ≡ false
+
+-- so none of a kind that no layer makes wild is
+abbrev pub NeverWild : Kind → Type 0
+NeverWild kind = (s : StackState) (name : List ℕ) → IsTrue s.tells → Stands s → kind_of name ≡ kind → (s.files name).wild ≡ false

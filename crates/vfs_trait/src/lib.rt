@@ -13,6 +13,6 @@ mod vfs;
 pub use byte_base::{ByteLists, Bytes};
 pub use control::{Answer, Control, TotalList, TraceList};
 pub use fault::{OpenFault, VfsFault};
-pub use laws::{checked_once, kept_twice, rose_in_two, separate_is_free};
+pub use laws::{checked_once, kept_twice, never_wild, none_wild, rose_in_two, separate_is_free};
 pub use log::{Call, Entry, Outcome};
 pub use vfs::Vfs;

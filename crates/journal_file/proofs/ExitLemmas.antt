@@ -1,17 +1,16 @@
 -- What the two files stand for at each exit, by their states along the way.
-use Rattle.std.proofs.Common.{arith, rules, ◌≡◌, ◌≢◌, ◌⊎◌, ℕ, zero, suc, ◌+◌, ◌*◌, ◌≤◌, ◌<◌, Bool, true, false, if◌then◌else◌, List, [], ◌∷◌, length, drop, get_or, slice_get, IsTrue, Option, Some, None, inl, inr, refl, sym, ◌∙◌, ap, subst}
-use Rattle.std.specs.Prelude.{unwrap_or}
+use Rattle.std.proofs.Common.{arith, rules, ◌≡◌, ◌≢◌, ◌⊎◌, ℕ, zero, suc, ◌≤◌, ◌<◌, Bool, true, false, if◌then◌else◌, List, [], ◌∷◌, length, get_or, slice_get, IsTrue, Option, Some, None, inl, inr, refl, sym, ◌∙◌, ap, subst}
 use Rattle.std.proofs.lemmas.Bool.{cases_lt, cases_order, cases_Bool}
 use Rattle.std.proofs.lemmas.Option.{slice_get-get_or}
 use Rattle.vfs_model.specs.Places.{same_places}
 use Rattle.vfs_model.specs.File.{Found, FileState, Stays, IsOrderly, IsImage, IsSettled, SameFound, IsKept as IsSafe}
 use Rattle.vfs_model.specs.Effect.{NoLooser}
 use Rattle.vfs_model.specs.Laws.{NowIsImage, OlderImages, OnlyImage}
-use Rattle.journal_format.specs.Undo.{Paged, Undo, laid, over, IsPlayed}
-use Rattle.journal_format.specs.Journal.{Hot, Cold, Foreign, Undoes, hot}
+use Rattle.journal_format.specs.Undo.{Undo, laid, over}
+use Rattle.journal_format.specs.Journal.{Hot, Cold, Undoes, hot}
 use Rattle.journal_format.specs.Laws.{ClosedIsCold, ShortIsCold}
 use Rattle.journal_file.specs.Content.{initial_size, with_reserve, bad_unless, SameContent, IsUndone, Shows, StandsFor, AllStandFor, AllStandForEither, HasStood, AllHaveStood}
-use Rattle.journal_file.specs.Steps.{IsShut, HasButFirst, IsKept, Exits, with_first}
+use Rattle.journal_file.specs.Steps.{HasButFirst, IsKept, with_first}
 use Rattle.journal_file.specs.Laws.{GateStands, KeptImage, StoodTwice, PlayExit}
 use Rattle.journal_file.proofs.JournalLemmas.{same_but_first, some_place, looser_content}
 use Rattle.journal_file.proofs.PlaceLemmas.{kept_kept, stays_kept}
@@ -56,12 +55,12 @@ gate_by law exists reserve js ds bytes opened closed but hot_shows cold_shows j 
   | inr shut ↦ inr (cold_by law exists reserve j d closed shut (cold_shows d id))
 ]
 
-either_same : (exists : List ℕ → Bool) (reserve : ℕ) (js ds : FileState) (content : Found) → AllStandForEither exists reserve js ds content content → AllStandFor exists reserve js ds content
+pub either_same : (exists : List ℕ → Bool) (reserve : ℕ) (js ds : FileState) (content : Found) → AllStandForEither exists reserve js ds content content → AllStandFor exists reserve js ds content
 either_same exists reserve js ds content h j d ij id = elim (h j d ij id) [ inl a ↦ a | inr b ↦ b ]
 
 -- a settled file has its bytes in each image
 
-settled_found : OnlyImage → OlderImages → (s t : FileState) (i : Found) → IsSettled s → IsTrue s.now.there → NoLooser s t → IsImage t i → SameFound s.now i
+pub settled_found : OnlyImage → OlderImages → (s t : FileState) (i : Found) → IsSettled s → IsTrue s.now.there → NoLooser s t → IsImage t i → SameFound s.now i
 settled_found only older s t i settled there stays image = let one = only s i settled (older s t i stays image) in one.1 (one.0 ∙ there)
 
 settled_bytes : OnlyImage → OlderImages → (s t : FileState) (i : Found) → IsSettled s → IsTrue s.now.there → NoLooser s t → IsImage t i → i.bytes ≡ s.now.bytes
@@ -205,7 +204,7 @@ hot_opened law exists bytes u is_hot = elim (byte_or (slice_get bytes 0)) [
 ]
 
 -- a file as found that is the one with an undo done, and any other way to say that
-undone_once : (u : Undo) (file a b d : Found) → IsUndone u file a → IsUndone u file b → SameFound a d → SameContent d b
+pub undone_once : (u : Undo) (file a b d : Found) → IsUndone u file a → IsUndone u file b → SameFound a d → SameContent d b
 undone_once u file a b d h k same =
     let size : length d.bytes ≡ initial_size u = same.size ∙ h.bytes.cut in
     record {

@@ -1,7 +1,6 @@
 -- A journal with more bytes than one has is not played back.
-use Rattle.std.proofs.Common.{arith, rules, ◌≡◌, ℕ, ◌*◌, ◌≤◌, ◌<◌, Bool, true, false, ◌&&◌, if◌then◌else◌, nat_eq, nat_le, List, length, IsTrue, Option, Some, None, refl, sym, ◌∙◌, ap, subst}
+use Rattle.std.proofs.Common.{arith, ◌≡◌, ℕ, ◌*◌, ◌<◌, Bool, true, false, ◌&&◌, if◌then◌else◌, nat_eq, nat_le, List, length, Option, Some, None, refl, sym, ◌∙◌, ap, subst}
 use Rattle.std.specs.List.{starts_with}
-use Rattle.std.proofs.lemmas.Bool.{cases_Bool}
 use Rattle.std.proofs.lemmas.Bool.Decides.{nat_tests}
 use Rattle.journal_format.specs.Undo.{Undo}
 use Rattle.journal_format.specs.Journal.{Hot, Cold, Foreign, Undoes, magic, hot, formed, of_form, is_size, all_exist, most_journal, most_database}

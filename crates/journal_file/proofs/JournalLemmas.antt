@@ -1,18 +1,17 @@
 -- A journal as its steps leave it.
-use Rattle.std.proofs.Common.{arith, rules, ◌≡◌, ◌⊎◌, ℕ, zero, suc, ◌+◌, ◌-◌, ◌≤◌, ◌<◌, max, min, Bool, true, false, List, [], ◌∷◌, length, take, drop, slice_get, IsTrue, Option, Some, None, Result, Ok, Err, OnOk, inl, inr, refl, sym, ◌∙◌, ap, subst}
+use Rattle.std.proofs.Common.{arith, rules, ◌≡◌, ℕ, zero, suc, ◌+◌, ◌-◌, ◌≤◌, ◌<◌, Bool, false, List, [], ◌∷◌, length, take, drop, slice_get, IsTrue, Some, Result, Ok, Err, OnOk, inl, inr, refl, sym, ◌∙◌, ap, subst}
 use Rattle.std.specs.Prelude.{unwrap_or}
 use Rattle.std.proofs.lemmas.List.{take_all}
 use Rattle.vfs_model.specs.Places.{same_places}
-use Rattle.vfs_model.specs.File.{FileState, IsOrderly, HasOneContent, IsSettled, IsKept as IsSafe}
-use Rattle.vfs_model.specs.Effect.{NoLooser, Wrote, WriteFailed, WriteFull, Cut, CutFailed, Synced, NameSynced, Opened, OpenFailed}
+use Rattle.vfs_model.specs.File.{FileState, HasOneContent, IsSettled, IsKept as IsSafe}
+use Rattle.vfs_model.specs.Effect.{NoLooser, Wrote, WriteFailed, Cut, CutFailed, Synced, NameSynced}
 use Rattle.vfs_model.specs.Name.{kind_of}
-use Rattle.vfs_model.specs.declared.name.Kind.{Kind}
-use Rattle.vfs_model.specs.declared.name.Kind.TheVariants.{Main, Journal, Super}
+use Rattle.vfs_model.specs.declared.name.Kind.TheVariants.{Journal}
 use Rattle.vfs_trait.specs.State.{StackState, OpenStays, file_at, name_at}
 use Rattle.vfs_trait.specs.Calls.{WriteLeaves, WriteCaused, CutLeaves, SyncLeaves, NamesLeft}
 use Rattle.vfs_trait.specs.declared.fault.VfsFault.{VfsFault}
 use Rattle.vfs_trait.specs.declared.fault.VfsFault.TheVariants.{Failed, Memory, Busy, Full, BadPage}
-use Rattle.journal_file.specs.Steps.{IsShut, IsCold, IsClosedOrEmpty, IsSettledButName, HasButFirst, with_first}
+use Rattle.journal_file.specs.Steps.{IsShut, IsClosedOrEmpty, with_first}
 use Rattle.journal_file.proofs.StackLemmas.{main_is_none, name_stays}
 
 -- a list with this first byte that agrees behind it

@@ -8,3 +8,5 @@ pub mod HotLemmas
 pub mod ReadLemmas
 pub mod RollbackLemmas
 pub mod RecoveryLemmas
+pub mod CommitLemmas
+pub mod ByNameLemmas

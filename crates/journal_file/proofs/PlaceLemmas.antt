@@ -1,24 +1,22 @@
 -- Pages that are laid over a file, place by place.
-use Rattle.std.proofs.Common.{arith, rules, ◌≡◌, ◌≢◌, ◌⊎◌, ℕ, zero, suc, ◌+◌, ◌-◌, ◌*◌, ◌%◌, ◌≤◌, ◌<◌, max, min, Bool, true, false, List, [], ◌∷◌, ◌++◌, length, take, drop, get_or, slice_get, replicate, IsSome, IsTrue, Option, Some, None, Result, Ok, Err, OnOk, inl, inr, refl, sym, ◌∙◌, ap, subst, add-one, append_assoc, length-append}
+use Rattle.std.proofs.Common.{arith, ◌≡◌, ℕ, zero, suc, ◌+◌, ◌-◌, ◌*◌, ◌≤◌, ◌<◌, min, Bool, false, List, [], ◌∷◌, ◌++◌, length, take, drop, get_or, slice_get, replicate, IsSome, IsTrue, Option, Some, None, inl, inr, refl, sym, ◌∙◌, ap, subst, add-one, append_assoc, length-append}
 use Rattle.std.proofs.Math.Nat.{mul-le-mul_right, suc-mul}
 use Rattle.std.proofs.Math.Seq.{drop-cons}
 use Rattle.std.proofs.lemmas.Bool.{cases_lt, false≢true}
-use Rattle.std.proofs.lemmas.List.{replicate-append-replicate, length-replicate, length-take, take_all}
+use Rattle.std.proofs.lemmas.List.{replicate-append-replicate, length-replicate, length-take}
 use Rattle.std.proofs.lemmas.Option.{slice_get-get_or}
-use Rattle.vfs_model.specs.File.{Found, FileState, Stays, IsKept as IsSafe}
+use Rattle.vfs_model.specs.File.{FileState}
 use Rattle.vfs_model.specs.Effect.{Beside, NoLooser, Wrote, WriteFailed, Cut, CutFailed, Synced}
-use Rattle.vfs_trait.specs.Calls.{CutLeaves, SyncLeaves}
-use Rattle.vfs_trait.specs.declared.fault.VfsFault.{VfsFault}
-use Rattle.journal_format.specs.Undo.{Paged, Undo, start, piece, laid, over, HasPage, ArePages, AreUpTo, IsPlayed}
-use Rattle.journal_format.specs.Values.{paged, all_paged, undo_of}
+use Rattle.journal_format.specs.Undo.{Paged, Undo, start, piece, laid, over, HasPage, ArePages, AreUpTo}
+use Rattle.journal_format.specs.Values.{all_paged}
 use Rattle.journal_format.specs.declared.pages.NumberedPage.{NumberedPage}
 use Rattle.journal_format.specs.declared.read.Play.{Play}
 use Rattle.journal_format.specs.Reading.{IsPlayable}
 use Rattle.journal_format.specs.Journal.{is_size}
 use Rattle.std.proofs.lemmas.Grind.{common_steps}
 use Rattle.journal_format.specs.Laws.{PagesCover}
-use Rattle.journal_file.specs.Content.{initial_size, cleared, all_cleared, with_reserve, bad_unless, IsUndone}
-use Rattle.journal_file.specs.Steps.{IsKept, HasLaid, WithinLeaves}
+use Rattle.journal_file.specs.Content.{initial_size, cleared, all_cleared, bad_unless, IsUndone}
+use Rattle.journal_file.specs.Steps.{IsKept, HasLaid}
 
 -- so many zeros, one after the other
 pub pushed : (xs ys zs : List ℕ) (k : ℕ) → ys ≡ xs ++ replicate k 0 → zs ≡ ys ++ 0 ∷ [] → zs ≡ xs ++ replicate (k + 1) 0
@@ -120,21 +118,6 @@ cut_kept u old new len is t tame = record {
     ]
   ]
 
-pub synced_kept : (u : Undo) (old new : FileState) → initial_size u ≤ length old.now.bytes → Synced old new → IsKept u old new
-synced_kept u old new enough t =
-    let size : length new.now.bytes ≡ length old.now.bytes = ap (λ f. length f.bytes) t.now in
-    record {
-      there = ap (λ f. f.there) t.now;
-      sure = t.sure;
-      tame = t.tame;
-      long = λ s. omega (arith, s, size);
-      each = λ place w n. (ap (λ f. slice_get f.bytes place) t.now, ap (λ f. f.bad place) t.now);
-      shortest = λ is s. omega (arith, enough, size, (t.content (t.tame is)).shortest);
-      safe = λ place w n safe.
-          let tame = t.tame safe.tame in
-          record { tame = tame; below = omega (arith, w, enough, size, (t.content tame).shortest); synced = (t.content tame).synced place (omega (arith, w, enough, size)) };
-    }
-
 pub stays_kept : (u : Undo) (old new : FileState) → NoLooser old new → IsKept u old new
 stays_kept u old new t = record {
   there = ap (λ f. f.there) t.now;
@@ -145,10 +128,6 @@ stays_kept u old new t = record {
   shortest = λ is s. omega (arith, s, (t.stop is).floor_is);
   safe = λ place w n safe. (t.stop safe.tame).kept place tt safe;
 }
-
-pub sync_kept : (u : Undo) (old new : FileState) (r : Result Unit VfsFault) → initial_size u ≤ length old.now.bytes → SyncLeaves old new r → IsKept u old new
-sync_kept u old new (Ok x) enough t = synced_kept u old new enough t
-sync_kept u old new (Err e) enough t = stays_kept u old new t
 
 pub kept_kept : (u : Undo) (a b c : FileState) → IsKept u a b → IsKept u b c → IsKept u a c
 kept_kept u a b c h k = record {
@@ -195,7 +174,7 @@ bad_there bits k m h = let e = slice_get-get_or bits k 0 h in rw e refl
 piece_in : (page : ℕ) (r : Paged) (place : ℕ) → start page r.0 ≤ place → place < start page r.0 + page → piece page r place ≡ slice_get r.1 (place - start page r.0)
 piece_in page r place low high = grind (arith, low, high)
 
-piece_out : (page : ℕ) (r : Paged) (place : ℕ) → Beside (start page r.0) page place → piece page r place ≡ None
+pub piece_out : (page : ℕ) (r : Paged) (place : ℕ) → Beside (start page r.0) page place → piece page r place ≡ None
 piece_out page r place (inl low) = grind (arith, low)
 piece_out page r place (inr high) = grind (arith, high)
 
@@ -252,6 +231,22 @@ undone_now u s0 s1 s2 s3 len enough t was_cut is now = record {
   };
   bad = λ place w. ap (λ f. f.bad place) now ∙ was_cut.touched.marks place (omega (arith, w, is)) ∙ t.bad place (omega (arith, w, enough));
 }
+
+-- if it is not wild then, what the undo does not have was kept of it, also where it was wild in between
+pub done_kept : (u : Undo) (s0 s1 s2 s3 : FileState) (len : ℕ) → initial_size u ≤ length s0.now.bytes → HasLaid u s0 s1 → Cut s1 s2 len → len ≡ initial_size u → Synced s2 s3 → s3.wild ≡ false → IsKept u s0 s3
+done_kept u s0 s1 s2 s3 len enough t was_cut is synced tame =
+    let undone = undone_now u s0 s1 s2 s3 len enough t was_cut is synced.now in
+    let content = synced.content tame in
+    record {
+      there = ap (λ f. f.there) synced.now ∙ was_cut.touched.there ∙ t.there;
+      sure = λ s. synced.sure (was_cut.touched.sure (t.sure s));
+      tame = λ was. tame;
+      long = λ s. omega (arith, undone.bytes.cut);
+      each = λ place w none.
+          (undone.bytes.each place w ∙ ap (λ o. over o (slice_get s0.now.bytes place)) none, undone.bad place w ∙ ap (λ o. bad_unless o (s0.now.bad place)) none);
+      shortest = λ was s. omega (arith, undone.bytes.cut, content.shortest);
+      safe = λ place w none safe. record { tame = tame; below = omega (arith, w, undone.bytes.cut, content.shortest); synced = content.synced place (omega (arith, w, undone.bytes.cut)) };
+    }
 
 drop_past : {X : Type 0} (xs : List X) (i : ℕ) → length xs ≤ i → drop i xs ≡ []
 drop_past [] zero h = refl

@@ -1,29 +1,29 @@
 -- Pages of a playback, written one after the other.
-use Rattle.std.proofs.Common.{arith, rules, ◌≡◌, ◌⊎◌, ℕ, ◌+◌, ◌-◌, ◌*◌, ◌%◌, ◌≤◌, ◌<◌, Bool, true, false, List, [], ◌∷◌, ◌++◌, length, take, drop, replicate, IsTrue, Option, Some, None, Result, Ok, Err, OnOk, inl, inr, refl, sym, ◌∙◌, ap, subst}
+use Rattle.std.proofs.Common.{arith, ◌≡◌, ℕ, ◌+◌, ◌-◌, ◌*◌, ◌%◌, ◌≤◌, Bool, false, List, ◌∷◌, length, take, drop, replicate, IsTrue, Option, Some, None, Result, Ok, Err, sym, ◌∙◌, ap, subst}
 use Rattle.std.proofs.Math.Nat.{mul-add-mod_self_right}
 use Rattle.std.proofs.Math.Seq.{drop-append_seam}
 use Rattle.std.proofs.lemmas.List.{length-take}
 use Rattle.vfs_model.specs.File.{FileState}
-use Rattle.vfs_model.specs.Effect.{NoLooser, Wrote, WriteFailed, Cut, CutFailed}
+use Rattle.vfs_model.specs.Effect.{Wrote, WriteFailed, Cut, CutFailed}
 use Rattle.vfs_model.specs.Store.{OthersStay}
 use Rattle.vfs_model.specs.Laws.{LooserTwice}
 use Rattle.vfs_model.specs.declared.name.Kind.{Kind}
-use Rattle.vfs_model.specs.declared.name.Kind.TheVariants.{Main, Journal, Super}
+use Rattle.vfs_model.specs.declared.name.Kind.TheVariants.{Main}
 use Rattle.vfs_model.specs.declared.layer.Layer.{Layer}
 use Rattle.vfs_trait.specs.State.{StackState, IsOpen, Steady, OpenStays, Rests, RestsBut, Stands, file_at, name_at}
-use Rattle.vfs_trait.specs.Calls.{Leaves, CutLeaves, SyncLeaves, MayWrite, MayCutTo, checked}
+use Rattle.vfs_trait.specs.Calls.{Leaves, CutLeaves, SyncLeaves, MayWrite, MayCutTo}
 use Rattle.vfs_trait.specs.declared.fault.VfsFault.{VfsFault}
 use Rattle.journal_format.specs.Undo.{Paged, Undo, start, HasPage, ArePages}
 use Rattle.journal_format.specs.Laws.{PagesCover}
-use Rattle.journal_format.specs.Values.{paged, all_paged, undo_of}
+use Rattle.journal_format.specs.Values.{all_paged, undo_of}
 use Rattle.journal_format.specs.declared.pages.NumberedPage.{NumberedPage}
 use Rattle.journal_format.specs.declared.read.Play.{Play}
 use Rattle.journal_format.specs.Reading.{IsPlayable}
-use Rattle.journal_file.specs.Tells.{NeverWild, TellsStops, IsSturdy, PlaysTame, Reserves}
+use Rattle.journal_file.specs.Tame.{IsSturdy, Reserves}
 use Rattle.journal_file.specs.Content.{initial_size, cleared, with_reserve}
 use Rattle.journal_file.specs.Steps.{IsKept, HasLaid, WithinLeaves}
-use Rattle.journal_file.proofs.StackLemmas.{steady_twice, name_stays, open_stays, rests_twice, rests_but, rests_same, steady_same, others_same, others_twice, left_at, tame_now, tells_next, told_next}
-use Rattle.journal_file.proofs.PlaceLemmas.{length_cleared, pages_cleared, within_end, size_large, IsAmong, page_kept, cut_kept, sync_kept, kept_kept, same_kept, HasCome, begun, next_page}
+use Rattle.journal_file.proofs.StackLemmas.{steady_twice, name_stays, open_stays, rests_twice, rests_but, rests_same, steady_same, others_same, others_twice, left_at, told_next}
+use Rattle.journal_file.proofs.PlaceLemmas.{length_cleared, pages_cleared, within_end, size_large, IsAmong, page_kept, cut_kept, done_kept, stays_kept, kept_kept, same_kept, HasCome, begun, next_page}
 use Rattle.journal_file.proofs.JournalLemmas.{cut_or_failed}
 
 -- what a checksum layer asks
@@ -73,36 +73,17 @@ pub reserve_fits : (o : Option (ℕ × List Layer)) (page reserve : ℕ) → Res
 reserve_fits None page reserve h = omega (arith, h)
 reserve_fits (Some layer) page reserve h = omega (arith, h.1)
 
--- a file that is never wild, or is not made so by what stays within it
-
-pub tame_at : (a : StackState) (fid size : ℕ) → PlaysTame a fid size → Stands a → (file_at a fid).wild ≡ false
-tame_at a fid size t stands = of t.tame where
-  of : (NeverWild a.layers (name_at a fid)) ⊎ (IsSturdy a (name_at a fid) size) → (file_at a fid).wild ≡ false
-  of (inl never) = tame_now a fid (record { told = t.told; tame = never }) stands
-  of (inr sturdy) = sturdy.tame
+-- a file that is not delicate stays so
 
 pub not_delicate : (a b : StackState) (fid : ℕ) → OpenStays a b → a.delicate (name_at a fid) ≡ false → b.delicate (name_at b fid) ≡ false
 not_delicate a b fid opens h = opens.delicate (name_at b fid) ∙ ap a.delicate (name_stays a b fid opens) ∙ h
-
-pub write_tame : (a b d : StackState) (fid size off len : ℕ) → PlaysTame a fid size → Steady a b → OpenStays a b → Steady b d → OpenStays b d → Stands d →
-    WriteFailed (b.delicate (name_at b fid)) (file_at b fid) (file_at d fid) off len → off + len ≤ length (file_at b fid).now.bytes → (file_at b fid).wild ≡ false → (file_at d fid).wild ≡ false
-write_tame a b d fid size off len t s o s' o' stands h within wild = of t.tame where
-  of : (NeverWild a.layers (name_at a fid)) ⊎ (IsSturdy a (name_at a fid) size) → (file_at d fid).wild ≡ false
-  of (inl never) = tame_now d fid (tells_next b d fid s' o' (tells_next a b fid s o (record { told = t.told; tame = never }))) stands
-  of (inr sturdy) = h.tame wild (not_delicate a b fid o sturdy.sturdy) within
-
-pub cut_tame : (a b d : StackState) (fid size len : ℕ) → PlaysTame a fid size → Steady a b → OpenStays a b → Steady b d → OpenStays b d → Stands d → length (file_at b fid).now.bytes ≡ length (file_at a fid).now.bytes →
-    len ≡ size → CutFailed (file_at b fid) (file_at d fid) len → (file_at b fid).wild ≡ false → (file_at d fid).wild ≡ false
-cut_tame a b d fid size len t s o s' o' stands same is h wild = of t.tame where
-  of : (NeverWild a.layers (name_at a fid)) ⊎ (IsSturdy a (name_at a fid) size) → (file_at d fid).wild ≡ false
-  of (inl never) = tame_now d fid (tells_next b d fid s' o' (tells_next a b fid s o (record { told = t.told; tame = never }))) stands
-  of (inr sturdy) = h.tame wild (omega (arith, same, is, sturdy.whole))
 
 -- what a playback has left, whatever was answered
 pub record Gone (u : Undo) (a b : StackState) (fid size : ℕ) : Type 0 where
   pub steady : Steady a b
   pub rests : RestsBut a b fid
-  pub kept : PlaysTame a fid size → IsKept u (file_at a fid) (file_at b fid)
+  pub kept : IsTrue a.tells → (file_at b fid).wild ≡ false → IsKept u (file_at a fid) (file_at b fid)
+  pub tame : IsTrue a.tells → IsSturdy a (name_at a fid) size → (file_at b fid).wild ≡ false
   pub others : IsTrue a.tells → OthersStay a.layers a.files b.files (name_at a fid)
   pub stands : Stands b
 
@@ -113,7 +94,7 @@ pub record Played (u : Undo) (rest : List Paged) (a b : StackState) (fid size : 
 
 pub none_yet : (u : Undo) (a : StackState) (fid size : ℕ) → Stands a → Played u u.originals a a fid size
 none_yet u a fid size stands = record {
-  gone = record { steady = steady_same a; rests = rests_same a fid; kept = λ t. same_kept u (file_at a fid); others = λ told. others_same a (name_at a fid); stands = stands };
+  gone = record { steady = steady_same a; rests = rests_same a fid; kept = λ told tame. same_kept u (file_at a fid); tame = λ told sturdy. sturdy.tame; others = λ told. others_same a (name_at a fid); stands = stands };
   come = λ told. begun u (file_at a fid);
 }
 
@@ -134,19 +115,20 @@ pub page_gone : LooserTwice → PagesCover → (u : Undo) (number : ℕ) (bits :
 page_gone twice cover u number bits rest a b d fid size r p s o h stands page long = record {
   steady = steady_twice a b d p.gone.steady s;
   rests = rests_twice a b d fid p.gone.steady p.gone.rests o;
-  kept = kept;
+  kept = λ told tame. kept_kept u (file_at a fid) (file_at b fid) (file_at d fid) (p.gone.kept told ((wrote told).was_tame tame))
+      (page_kept cover u number _ (file_at b fid) (file_at d fid) page.pages page.has (wrote told) (enough told) (λ was. tame));
+  tame = λ told sturdy. (wrote told).tame (p.gone.tame told sturdy) (not_delicate a b fid p.gone.rests.opens sturdy.sturdy) (omega (arith, page.within, enough told));
   others = λ told. others_twice twice a b d fid p.gone.steady p.gone.rests.opens (p.gone.others told) (h.others (told_next a b p.gone.steady told));
   stands = stands;
 } where
-  kept : PlaysTame a fid size → IsKept u (file_at a fid) (file_at d fid)
-  kept t =
-      let told' = told_next a b p.gone.steady t.told in
-      let enough : initial_size u ≤ length (file_at b fid).now.bytes = omega (arith, long t.told, (p.come t.told).size) in
+  enough : IsTrue a.tells → initial_size u ≤ length (file_at b fid).now.bytes
+  enough told = omega (arith, long told, (p.come told).size)
+
+  wrote : IsTrue a.tells → WriteFailed (b.delicate (name_at b fid)) (file_at b fid) (file_at d fid) (start u.page number) u.page
+  wrote told =
       let P : ℕ → Type 0 = λ n. WriteFailed (b.delicate (name_at b fid)) (file_at b fid) (file_at d fid) (start u.page number) n in
-      let w = subst P page.whole (within_failed _ _ _ (start u.page number) bits r (left_at b d fid (λ old new. WithinLeaves (b.delicate (name_at b fid)) old new (start u.page number) bits r) o.opens h told')) in
-      kept_kept u (file_at a fid) (file_at b fid) (file_at d fid) (p.gone.kept t)
-      (page_kept cover u number _ (file_at b fid) (file_at d fid) page.pages page.has w enough
-      (write_tame a b d fid size (start u.page number) u.page t p.gone.steady p.gone.rests.opens s o.opens stands w (omega (arith, page.within, enough))))
+      subst P page.whole (within_failed _ _ _ (start u.page number) bits r
+      (left_at b d fid (λ old new. WithinLeaves (b.delicate (name_at b fid)) old new (start u.page number) bits r) o.opens h (told_next a b p.gone.steady told)))
 
 pub page_played : LooserTwice → PagesCover → (u : Undo) (number : ℕ) (bits : List ℕ) (rest : List Paged) (a b d : StackState) (fid size : ℕ) (x : Unit) → Played u ((number, bits) ∷ rest) a b fid size → Steady b d → RestsBut b d fid →
     Leaves b d (name_at b fid) (λ old new. WithinLeaves (b.delicate (name_at b fid)) old new (start u.page number) bits (Ok x)) → Stands d → IsPage u number bits →
@@ -175,22 +157,39 @@ pub cut_gone : LooserTwice → (u : Undo) (a b d : StackState) (fid size len : �
 cut_gone twice u a b d fid size len r p same s o h stands is whole = record {
   steady = steady_twice a b d p.steady s;
   rests = rests_twice a b d fid p.steady p.rests o;
-  kept = λ t.
-      let told' = told_next a b p.steady t.told in
-      let w = cut_or_failed _ _ len r (left_at b d fid (λ old new. CutLeaves old new len r) o.opens h told') in
-      kept_kept u (file_at a fid) (file_at b fid) (file_at d fid) (p.kept t) (cut_kept u (file_at b fid) (file_at d fid) len (is ∙ whole) w
-      (cut_tame a b d fid size len t p.steady p.rests.opens s o.opens stands (same t.told) is w));
+  kept = λ told tame. kept_kept u (file_at a fid) (file_at b fid) (file_at d fid) (p.kept told ((was_cut told).was_tame tame))
+      (cut_kept u (file_at b fid) (file_at d fid) len (is ∙ whole) (was_cut told) (λ was. tame));
+  tame = λ told sturdy. (was_cut told).tame (p.tame told sturdy) (omega (arith, same told, is, sturdy.whole));
   others = λ told. others_twice twice a b d fid p.steady p.rests.opens (p.others told) (h.others (told_next a b p.steady told));
   stands = stands;
-}
+} where
+  was_cut : IsTrue a.tells → CutFailed (file_at b fid) (file_at d fid) len
+  was_cut told = cut_or_failed _ _ len r (left_at b d fid (λ old new. CutLeaves old new len r) o.opens h (told_next a b p.steady told))
 
-pub sync_gone : LooserTwice → (u : Undo) (a b d : StackState) (fid size : ℕ) (r : Result Unit VfsFault) → Gone u a b fid size → IsOpen a fid → (IsTrue a.tells → initial_size u ≤ length (file_at b fid).now.bytes) →
+sync_tame : (old new : FileState) (r : Result Unit VfsFault) → SyncLeaves old new r → old.wild ≡ false → new.wild ≡ false
+sync_tame old new (Ok x) t was = t.tame was
+sync_tame old new (Err e) t was = t.tame was
+
+-- a file with all pages that was cut
+pub record WasCut (u : Undo) (first laid now : FileState) (len : ℕ) : Type 0 where
+  pub long : initial_size u ≤ length first.now.bytes
+  pub has : HasLaid u first laid
+  pub was_cut : Cut laid now len
+  pub is : len ≡ initial_size u
+
+sync_done : (u : Undo) (first laid now next : FileState) (len : ℕ) (r : Result Unit VfsFault) → WasCut u first laid now len → (now.wild ≡ false → IsKept u first now) → SyncLeaves now next r → next.wild ≡ false → IsKept u first next
+sync_done u first laid now next len (Ok x) p kept t tame = done_kept u first laid now next len p.long p.has p.was_cut p.is t tame
+sync_done u first laid now next len (Err e) p kept t tame = kept_kept u first now next (kept (t.was_tame tame)) (stays_kept u now next t)
+
+pub sync_gone : LooserTwice → (u : Undo) (a l b d : StackState) (fid size len : ℕ) (r : Result Unit VfsFault) → Gone u a b fid size → IsOpen a fid → (IsTrue a.tells → WasCut u (file_at a fid) (file_at l fid) (file_at b fid) len) →
     Steady b d → Rests b d → Leaves b d (name_at b fid) (λ old new. SyncLeaves old new r) → Stands d → Gone u a d fid size
-sync_gone twice u a b d fid size r p is_open long s o h stands = record {
+sync_gone twice u a l b d fid size len r p is_open done s o h stands = record {
   steady = steady_twice a b d p.steady s;
   rests = rests_twice a b d fid p.steady p.rests (rests_but b d fid (open_stays a b fid p.rests.opens is_open) o);
-  kept = λ t. kept_kept u (file_at a fid) (file_at b fid) (file_at d fid) (p.kept t)
-      (sync_kept u (file_at b fid) (file_at d fid) r (long t.told) (left_at b d fid (λ old new. SyncLeaves old new r) o.opens h (told_next a b p.steady t.told)));
+  kept = λ told tame. sync_done u (file_at a fid) (file_at l fid) (file_at b fid) (file_at d fid) len r (done told) (p.kept told) (synced told) tame;
+  tame = λ told sturdy. sync_tame (file_at b fid) (file_at d fid) r (synced told) (p.tame told sturdy);
   others = λ told. others_twice twice a b d fid p.steady p.rests.opens (p.others told) (h.others (told_next a b p.steady told));
   stands = stands;
-}
+} where
+  synced : IsTrue a.tells → SyncLeaves (file_at b fid) (file_at d fid) r
+  synced told = left_at b d fid (λ old new. SyncLeaves old new r) o.opens h (told_next a b p.steady told)

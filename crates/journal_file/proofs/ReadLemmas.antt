@@ -1,5 +1,5 @@
 -- A file that was read whole.
-use Rattle.std.proofs.Common.{arith, ◌≡◌, ℕ, ◌+◌, ◌-◌, ◌<◌, min, List, length, slice_get, sym, ◌∙◌, ap}
+use Rattle.std.proofs.Common.{arith, ◌≡◌, ℕ, ◌+◌, List, length, slice_get, ◌∙◌, ap}
 use Rattle.vfs_model.specs.Places.{same_places}
 use Rattle.vfs_trait.specs.Calls.{Reads}
 

@@ -1,18 +1,13 @@
 -- A sync before a playback.
-use Rattle.std.proofs.Common.{arith, ◌≡◌, ◌⊎◌, ℕ, ◌≤◌, Bool, true, false, List, length, slice_get, IsTrue, Result, Ok, Err, inl, inr, refl, sym, ◌∙◌, ap, subst}
-use Rattle.vfs_model.specs.File.{Found, FileState, IsOrderly, IsImage, IsSettled, IsKept as IsSafe}
+use Rattle.std.proofs.Common.{arith, ◌≡◌, ℕ, Bool, false, List, length, slice_get, Result, Ok, Err, ◌∙◌, ap}
+use Rattle.vfs_model.specs.File.{Found, FileState, IsOrderly, IsImage, IsKept as IsSafe}
 use Rattle.vfs_model.specs.Effect.{NoLooser, Synced}
 use Rattle.vfs_model.specs.Laws.{OlderImages}
-use Rattle.vfs_trait.specs.State.{StackState, Steady, OpenStays, file_at, name_at}
-use Rattle.vfs_model.specs.declared.layer.Layer.{Layer}
 use Rattle.vfs_trait.specs.Calls.{SyncLeaves}
 use Rattle.vfs_trait.specs.declared.fault.VfsFault.{VfsFault}
-use Rattle.journal_format.specs.Journal.{Undoes, all_exist, hot}
-use Rattle.journal_file.specs.Tells.{NeverWild, IsSturdy, TellsStops, PlaysTame}
-use Rattle.journal_file.specs.Content.{initial_size, AllHaveStood}
+use Rattle.journal_format.specs.Journal.{all_exist, hot}
+use Rattle.journal_file.specs.Content.{AllHaveStood}
 use Rattle.journal_file.specs.Steps.{IsHotOver}
-use Rattle.journal_file.proofs.StackLemmas.{name_stays, never_next}
-use Rattle.journal_file.proofs.PlayLemmas.{not_delicate}
 
 synced_image : (old new : FileState) (i : Found) → IsOrderly old → Synced old new → new.wild ≡ false → IsImage new i → IsImage old i
 synced_image old new i orderly t tame image =
@@ -37,25 +32,10 @@ pub sync_stood : OlderImages → (exists : List ℕ → Bool) (reserve : ℕ) (j
 sync_stood older exists reserve j d j' d' r orderly h t tame i e ij id =
     record { older_j = i; older_d = e; is_journal = older j j' i h ij; is_db = sync_image older d d' r e orderly t tame id; same = λ content s. s }
 
-pub plays_synced : (a b : StackState) (fid size : ℕ) → Steady a b → OpenStays a b → Synced (file_at a fid) (file_at b fid) → PlaysTame a fid size → PlaysTame b fid size
-plays_synced a b fid size s opens t p = record { told = s.tells ∙ p.told; tame = of p.tame } where
-  of : (NeverWild a.layers (name_at a fid)) ⊎ (IsSturdy a (name_at a fid) size) → (NeverWild b.layers (name_at b fid)) ⊎ (IsSturdy b (name_at b fid) size)
-  of (inl never) = inl (let P : List ℕ → Type 0 = λ n. NeverWild b.layers n in subst P (sym (name_stays a b fid opens)) (never_next a b (name_at a fid) s never))
-  of (inr sturdy) = inr (record { whole = ap (λ f. length f.bytes) t.now ∙ sturdy.whole; tame = t.tame sturdy.tame; sturdy = not_delicate a b fid opens sturdy.sturdy })
-
 pub still_over : (page : ℕ) (j d j' d' : FileState) → IsHotOver page j d → NoLooser j j' → Synced d d' → IsHotOver page j' d'
 still_over page j d j' d' h k t = record {
   undo = h.undo;
   is_hot = ap (λ f. hot all_exist f.bytes) k.now ∙ h.is_hot;
   page_is = h.page_is;
   long = record { there = ap (λ f. f.there) t.now ∙ h.long.there; sure = t.sure h.long.sure; long = omega (arith, h.long.long, ap (λ f. length f.bytes) t.now) };
-}
-
-pub tells_back : (a b : StackState) (fid : ℕ) → Steady a b → OpenStays a b → TellsStops b fid → TellsStops a fid
-tells_back a b fid s opens t = record {
-  told = sym s.tells ∙ t.told;
-  tame =
-      let P : List ℕ → Type 0 = λ n. NeverWild b.layers n in
-      let Q : List Layer → Type 0 = λ ls. NeverWild ls (name_at a fid) in
-      subst Q s.layers (subst P (name_stays a b fid opens) t.tame);
 }

@@ -1,6 +1,6 @@
 -- A playback and the closing of the gate, over whole stacks.
-use Rattle.std.proofs.Common.{arith, rules, ◌≡◌, ◌≢◌, ◌⊎◌, ℕ, ◌≤◌, Bool, true, false, List, [], ◌∷◌, length, slice_get, if◌then◌else◌, IsTrue, IsSome, Option, Some, None, unwrap_or, Result, Ok, Err, OnOk, inl, inr, refl, sym, ◌∙◌, ap, subst}
-use Rattle.vfs_model.specs.File.{Found, FileState, IsOrderly, IsImage, IsSettled}
+use Rattle.std.proofs.Common.{arith, rules, ◌≡◌, ◌≢◌, ℕ, ◌≤◌, Bool, true, false, List, [], length, slice_get, if◌then◌else◌, IsTrue, IsSome, Option, Some, None, unwrap_or, Result, Ok, Err, OnOk, refl, sym, ◌∙◌, ap, subst}
+use Rattle.vfs_model.specs.File.{FileState, IsOrderly, IsSettled}
 use Rattle.vfs_model.specs.Effect.{NoLooser}
 use Rattle.vfs_model.specs.Store.{Apart, OthersStay}
 use Rattle.vfs_model.specs.Laws.{LooserTwice, NowIsImage, OlderImages, OnlyImage}
@@ -10,16 +10,16 @@ use Rattle.vfs_trait.specs.declared.fault.VfsFault.{VfsFault}
 use Rattle.journal_format.specs.Undo.{Undo}
 use Rattle.journal_format.specs.Journal.{Hot, Cold, Foreign, Undoes, all_exist, hot, unless_missing}
 use Rattle.journal_format.specs.Laws.{ClosedIsCold, ShortIsCold, Asked, asked}
-use Rattle.journal_file.specs.Tells.{NeverWild, IsSturdy, TellsStops, PlaysTame}
-use Rattle.journal_file.specs.Content.{initial_size, with_reserve, IsUndone, AllHaveStood}
-use Rattle.journal_file.specs.Steps.{IsShut, HasButFirst, IsKept, IsLong, IsHotOver, BothStayed, Exits, with_first}
+use Rattle.journal_file.specs.Tame.{IsSturdy}
+use Rattle.journal_file.specs.Content.{initial_size, with_reserve, AllHaveStood}
+use Rattle.journal_file.specs.Steps.{IsShut, IsKept, IsLong, IsHotOver, BothStayed, Exits, with_first}
 use Rattle.journal_file.specs.Laws.{KeptImage}
-use Rattle.journal_file.proofs.StackLemmas.{name_stays, never_next}
+use Rattle.journal_file.proofs.StackLemmas.{name_stays}
 use Rattle.journal_file.proofs.JournalLemmas.{settled_shut}
 use Rattle.journal_file.proofs.PlayLemmas.{not_delicate}
 use Rattle.journal_file.proofs.ExitLemmas.{IsHotPair, IsClosing, play_exit_by, open_first, closed_stood, closed_first, hot_long, there_of}
 
-some_is : (o : Option (List ℕ)) → IsSome o → o ≡ Some (unwrap_or o [])
+pub some_is : (o : Option (List ℕ)) → IsSome o → o ≡ Some (unwrap_or o [])
 some_is None h = absurd (search (rules, h))
 some_is (Some x) h = refl
 
@@ -102,11 +102,8 @@ all_hot law exists bytes u is = asked_hot exists (hot all_exist bytes) u (sym (l
 pub this_page : (page : ℕ) (j d : FileState) (u : Undo) → IsHotOver page j d → hot all_exist j.now.bytes ≡ Undoes u → u.page ≡ page
 this_page page j d u h is = let e : Undoes h.undo ≡ Undoes u = sym h.is_hot ∙ is in let k : h.undo ≡ u = cc in ap (λ v. v.page) (sym k) ∙ h.page_is
 
-pub plays_next : (a b : StackState) (fid size : ℕ) → Steady a b → OpenStays a b → NoLooser (file_at a fid) (file_at b fid) → PlaysTame a fid size → PlaysTame b fid size
-plays_next a b fid size s opens stays t = record { told = s.tells ∙ t.told; tame = of t.tame } where
-  of : (NeverWild a.layers (name_at a fid)) ⊎ (IsSturdy a (name_at a fid) size) → (NeverWild b.layers (name_at b fid)) ⊎ (IsSturdy b (name_at b fid) size)
-  of (inl never) = inl (let P : List ℕ → Type 0 = λ n. NeverWild b.layers n in subst P (sym (name_stays a b fid opens)) (never_next a b (name_at a fid) s never))
-  of (inr sturdy) = inr (record { whole = ap (λ f. length f.bytes) stays.now ∙ sturdy.whole; tame = stays.tame sturdy.tame; sturdy = not_delicate a b fid opens sturdy.sturdy })
+pub sturdy_next : (a b : StackState) (fid size : ℕ) → OpenStays a b → NoLooser (file_at a fid) (file_at b fid) → IsSturdy a (name_at a fid) size → IsSturdy b (name_at b fid) size
+sturdy_next a b fid size opens stays h = record { whole = ap (λ f. length f.bytes) stays.now ∙ h.whole; tame = stays.tame h.tame; sturdy = not_delicate a b fid opens h.sturdy }
 
 pub stays_stood_by : OlderImages → (exists : List ℕ → Bool) (reserve : ℕ) (j d j' d' : FileState) → NoLooser j j' → NoLooser d d' → AllHaveStood exists reserve j d j' d'
 stays_stood_by older exists reserve j d j' d' h k i e ij id = record { older_j = i; older_d = e; is_journal = older j j' i h ij; is_db = older d d' e k id; same = λ content s. s }

@@ -1,20 +1,19 @@
 -- Calls on one file, one after the other, over whole stacks.
-use Rattle.std.proofs.Common.{arith, rules, [], ◌≡◌, ◌≢◌, ℕ, ◌+◌, ◌≤◌, Bool, true, false, List, length, IsTrue, IsSome, Option, Some, None, unwrap_or, Result, Ok, Err, refl, sym, ◌∙◌, ap, subst}
-use Rattle.byte_base.specs.Count.{Rose}
+use Rattle.std.proofs.Common.{arith, rules, [], ◌≡◌, ℕ, false, List, IsTrue, IsSome, Option, Some, None, unwrap_or, Result, Ok, Err, refl, sym, ◌∙◌, ap, subst}
 use Rattle.vfs_model.specs.File.{FileState, IsOrderly}
 use Rattle.vfs_model.specs.Effect.{NoLooser}
 use Rattle.vfs_model.specs.Laws.{LooserTwice}
-use Rattle.vfs_model.specs.Store.{OthersStay, FilesStay, NamesSynced}
+use Rattle.vfs_model.specs.Store.{OthersStay, FilesStay}
 use Rattle.vfs_model.specs.Pass.{others_of}
 use Rattle.vfs_model.specs.Name.{kind_of}
 use Rattle.vfs_model.specs.declared.name.Kind.{Kind}
 use Rattle.vfs_model.specs.declared.name.Kind.TheVariants.{Main, Journal, Super}
 use Rattle.vfs_model.specs.declared.layer.Layer.{Layer}
-use Rattle.vfs_trait.specs.State.{StackState, IsOpen, Steady, OpenStays, LevelsStay, LengthsBeside, BrokenBeside, Rests, RestsBut, RestsMeasured, Stands, file_at, name_at}
-use Rattle.vfs_trait.specs.Calls.{Caused, ReadCaused, WriteCaused, MeetsIn, Leaves, NamesLeft, FilesLeft, checked}
+use Rattle.vfs_trait.specs.State.{StackState, IsOpen, Steady, OpenStays, LengthsBeside, Rests, RestsBut, RestsMeasured, Stands, file_at, name_at}
+use Rattle.vfs_trait.specs.Laws.{NeverWild}
+use Rattle.vfs_trait.specs.Calls.{Caused, ReadCaused, WriteCaused, MeetsIn, Leaves, checked}
 use Rattle.vfs_trait.specs.declared.fault.VfsFault.{VfsFault}
 use Rattle.vfs_trait.specs.declared.fault.VfsFault.TheVariants.{Failed, Memory, Busy, Full, BadPage}
-use Rattle.journal_file.specs.Tells.{NeverWild, TellsStops}
 
 -- what stays of a stack
 
@@ -144,22 +143,21 @@ left_at a b fid left opens h told = let P : List ℕ → Type 0 = λ n. left (fi
 pub orderly_now : (s : StackState) (name : List ℕ) → IsTrue s.tells → Stands s → IsOrderly (s.files name)
 orderly_now s name told stands = (stands.sound told).orderly name
 
-pub tame_now : (s : StackState) (fid : ℕ) → TellsStops s fid → Stands s → (file_at s fid).wild ≡ false
-tame_now s fid t stands = t.tame.never s refl t.told stands
+-- the stack tells content, and the open file of this number is a journal
+pub record TellsJournal (s : StackState) (fid : ℕ) : Type 0 where
+  pub told : IsTrue s.tells
+  pub is : kind_of (name_at s fid) ≡ Journal
 
-pub never_next : (a b : StackState) (name : List ℕ) → Steady a b → NeverWild a.layers name → NeverWild b.layers name
-never_next a b name s h = let P : List Layer → Type 0 = λ ls. NeverWild ls name in subst P (sym s.layers) h
+pub tame_now : NeverWild Journal → (s : StackState) (fid : ℕ) → TellsJournal s fid → Stands s → (file_at s fid).wild ≡ false
+tame_now never s fid t stands = never s (name_at s fid) t.told stands t.is
 
-pub tells_next : (a b : StackState) (fid : ℕ) → Steady a b → OpenStays a b → TellsStops a fid → TellsStops b fid
-tells_next a b fid s opens t = record {
-  told = s.tells ∙ t.told;
-  tame = let P : List ℕ → Type 0 = λ n. NeverWild b.layers n in subst P (sym (name_stays a b fid opens)) (never_next a b (name_at a fid) s t.tame);
-}
+pub tells_next : (a b : StackState) (fid : ℕ) → Steady a b → OpenStays a b → TellsJournal a fid → TellsJournal b fid
+tells_next a b fid s opens t = record { told = s.tells ∙ t.told; is = ap kind_of (name_stays a b fid opens) ∙ t.is }
 
 -- the files of other names
 
 pub looser_same : (s : FileState) → NoLooser s s
-looser_same s = record { now = refl; tame = λ h. h; sure = λ h. h; stop = λ h. record { kept = λ place at k. k; floor_is = omega arith; reach_is = omega arith } }
+looser_same s = record { now = refl; tame = λ h. h; was_tame = λ h. h; sure = λ h. h; stop = λ h. record { kept = λ place at k. k; floor_is = omega arith; reach_is = omega arith } }
 
 pub others_same : (a : StackState) (name : List ℕ) → OthersStay a.layers a.files a.files name
 others_same a name = record { each = λ other apart. looser_same (a.files other) }

@@ -1,18 +1,11 @@
 -- What follows from the steps, for callers that commit and recover.
-use Rattle.std.specs.Prelude.{◌≡◌, ◌≢◌, ℕ, ◌≤◌, Bool, false, List, length, IsTrue}
+use Rattle.std.specs.Prelude.{◌≡◌, ℕ, ◌≤◌, Bool, false, List, IsTrue}
 use Rattle.vfs_model.specs.File.{Found, FileState, IsImage, IsOrderly, IsSettled}
 use Rattle.vfs_model.specs.Effect.{NoLooser}
-use Rattle.vfs_model.specs.Sound.{Each, MakesNoneWild}
-use Rattle.vfs_model.specs.declared.layer.Layer.{Layer}
 use Rattle.journal_format.specs.Undo.{Undo}
 use Rattle.journal_format.specs.Journal.{Undoes, hot}
-use Rattle.journal_file.specs.Tells.{NeverWild}
 use Rattle.journal_file.specs.Content.{initial_size, with_reserve, SameContent, IsUndone, Shows, AllStandFor, AllStandForEither, AllHaveStood}
 use Rattle.journal_file.specs.Steps.{IsShut, IsCold, HasButFirst, IsKept, with_first}
-
--- where no layer makes a file wild, none is
-abbrev pub NoneWild : Type 0
-NoneWild = (layers : List Layer) (name : List ℕ) → Each MakesNoneWild layers → NeverWild layers name
 
 -- a journal that is shut is cold
 abbrev pub ShutIsCold : Type 0

@@ -1,4 +1,5 @@
-pub mod Tells
+pub mod Tame
 pub mod Content
 pub mod Steps
 pub mod Laws
+pub mod Commit

@@ -1,6 +1,6 @@
 -- What the steps of a commit and of a playback keep of a file, whatever a call was answered.
 -- After sqlite.org, "Atomic Commit In SQLite", sections 3 and 4.
-use Rattle.std.specs.Prelude.{◌≡◌, ◌≢◌, ◌⊎◌, ℕ, ◌+◌, ◌≤◌, ◌<◌, Bool, false, List, [], ◌∷◌, length, drop, IsTrue, Option, Some, None, IsSome, Result, Ok, Err, slice_get}
+use Rattle.std.specs.Prelude.{◌≡◌, ◌≢◌, ◌⊎◌, ℕ, ◌≤◌, ◌<◌, Bool, false, List, [], ◌∷◌, length, drop, IsTrue, Option, Some, None, IsSome, Result, Ok, Err, slice_get}
 use Rattle.vfs_model.specs.File.{FileState, Stays, HasOneContent, IsSettled, IsKept as IsSafe}
 use Rattle.vfs_model.specs.Effect.{NoLooser, Wrote, WriteFailed, Surer}
 use Rattle.vfs_model.specs.Store.{Store, Apart}

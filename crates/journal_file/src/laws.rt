@@ -1,14 +1,9 @@
 //! What follows from the steps, as laws that callers may call.
 
-ghost use Rattle.journal_file.specs.Laws.{NoneWild, ShutIsCold, ColdStands, GateStands, KeptImage, KeptStands, KeptTwice, StaysKept, StoodTwice, StaysStood, PlayExit};
+ghost use Rattle.journal_file.specs.Laws.{ShutIsCold, ColdStands, GateStands, KeptImage, KeptStands, KeptTwice, StaysKept, StoodTwice, StaysStood, PlayExit};
 
 use journal_format::{closed_is_cold, short_is_cold};
 use vfs_model::{now_is_image, older_images, settled_stays};
-
-/// Where no layer makes a file wild, none is.
-pub fn none_wild()
-    ensures { NoneWild }
-{}
 
 /// A journal that is shut is cold.
 pub fn shut_is_cold()

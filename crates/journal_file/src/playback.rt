@@ -10,7 +10,7 @@ ghost use Rattle.journal_format.specs.Undo.{start};
 ghost use Rattle.journal_format.specs.Journal.{is_size, most_database};
 ghost use Rattle.journal_format.specs.Values.{undo_of};
 ghost use Rattle.journal_format.specs.Reading.{IsPlayable};
-ghost use Rattle.journal_file.specs.Tells.{PlaysTame, Reserves};
+ghost use Rattle.journal_file.specs.Tame.{IsSturdy, Reserves};
 ghost use Rattle.journal_file.specs.Content.{initial_size, cleared, with_reserve, IsUndone};
 ghost use Rattle.journal_file.specs.Steps.{IsKept, IsLong, WithinLeaves, HasLaid};
 
@@ -39,9 +39,10 @@ pub fn play<V: Vfs>(
     ensures steady { Steady (V.state stack.old) (V.state stack.new) }
     ensures cause { Caused (V.state stack.old) (V.state stack.new) result }
     ensures rests { RestsBut (V.state stack.old) (V.state stack.new) db.0 }
-    ensures kept { PlaysTame (V.state stack.old) db.0 (initial_size (undo_of play.now)) → IsKept (with_reserve reserve (undo_of play.now)) (file_at (V.state stack.old) db.0) (file_at (V.state stack.new) db.0) }
+    ensures kept { IsTrue (V.state stack.old).tells → (file_at (V.state stack.new) db.0).wild ≡ false → IsKept (with_reserve reserve (undo_of play.now)) (file_at (V.state stack.old) db.0) (file_at (V.state stack.new) db.0) }
     ensures played { OnOk result (IsTrue (V.state stack.old).tells → IsUndone (with_reserve reserve (undo_of play.now)) (file_at (V.state stack.old) db.0).now (file_at (V.state stack.new) db.0).now) }
     ensures settled { OnOk result (IsTrue (V.state stack.old).tells → (file_at (V.state stack.new) db.0).wild ≡ false → IsSettled (file_at (V.state stack.new) db.0)) }
+    ensures tame { IsTrue (V.state stack.old).tells → IsSturdy (V.state stack.old) (name_at (V.state stack.old) db.0) (initial_size (undo_of play.now)) → (file_at (V.state stack.new) db.0).wild ≡ false }
     ensures others { IsTrue (V.state stack.old).tells → OthersStay (V.state stack.old).layers (V.state stack.old).files (V.state stack.new).files (name_at (V.state stack.old) db.0) }
     ensures stands { Stands (V.state stack.new) }
 {
@@ -67,8 +68,9 @@ fn write_originals<V: Vfs>(
     ensures steady { Steady (V.state stack.old) (V.state stack.new) }
     ensures cause { Caused (V.state stack.old) (V.state stack.new) result }
     ensures rests { RestsBut (V.state stack.old) (V.state stack.new) db.0 }
-    ensures kept { PlaysTame (V.state stack.old) db.0 (initial_size (undo_of play.now)) → IsKept (with_reserve reserve (undo_of play.now)) (file_at (V.state stack.old) db.0) (file_at (V.state stack.new) db.0) }
+    ensures kept { IsTrue (V.state stack.old).tells → (file_at (V.state stack.new) db.0).wild ≡ false → IsKept (with_reserve reserve (undo_of play.now)) (file_at (V.state stack.old) db.0) (file_at (V.state stack.new) db.0) }
     ensures laid { OnOk result (IsTrue (V.state stack.old).tells → HasLaid (with_reserve reserve (undo_of play.now)) (file_at (V.state stack.old) db.0) (file_at (V.state stack.new) db.0)) }
+    ensures tame { IsTrue (V.state stack.old).tells → IsSturdy (V.state stack.old) (name_at (V.state stack.old) db.0) (initial_size (undo_of play.now)) → (file_at (V.state stack.new) db.0).wild ≡ false }
     ensures others { IsTrue (V.state stack.old).tells → OthersStay (V.state stack.old).layers (V.state stack.old).files (V.state stack.new).files (name_at (V.state stack.old) db.0) }
     ensures stands { Stands (V.state stack.new) }
 {

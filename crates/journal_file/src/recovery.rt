@@ -1,14 +1,14 @@
 //! A caller of a playback, for which no clause asks how sure the database file is.
 
-ghost use Rattle.std.specs.Prelude.{◌≡◌, ◌≢◌, ℕ, Bool, List, IsTrue};
+ghost use Rattle.std.specs.Prelude.{◌≡◌, ◌≢◌, ℕ, Bool, false, List, IsTrue};
 ghost use Rattle.vfs_model.specs.File.{IsSettled};
 ghost use Rattle.vfs_model.specs.Name.{kind_of};
 ghost use Rattle.vfs_trait.specs.State.{IsOpen, Steady, Stands, file_at, name_at};
 ghost use Rattle.vfs_trait.specs.Calls.{Caused, checked};
 ghost use Rattle.journal_format.specs.Undo.{Undo};
 ghost use Rattle.journal_format.specs.Journal.{Undoes, hot};
-ghost use Rattle.journal_file.specs.Tells.{TellsStops, PlaysTame, Reserves};
-ghost use Rattle.journal_file.specs.Content.{initial_size, AllHaveStood};
+ghost use Rattle.journal_file.specs.Tame.{Reserves};
+ghost use Rattle.journal_file.specs.Content.{AllHaveStood};
 ghost use Rattle.journal_file.specs.Steps.{IsHotOver};
 
 use crate::rollback::rollback_from;
@@ -34,10 +34,10 @@ pub fn recover<V: Vfs>(
     requires is_journal { kind_of (name_at (V.state stack.old) journal.0) ≡ Kind.Journal }
     requires reserves { Reserves (checked (V.state stack.old).layers) page reserve }
     requires hot { IsTrue (V.state stack.old).tells → IsHotOver page (file_at (V.state stack.old) journal.0) (file_at (V.state stack.old) db.0) }
-    requires settled { TellsStops (V.state stack.old) journal.0 → IsSettled (file_at (V.state stack.old) journal.0) }
+    requires settled { IsTrue (V.state stack.old).tells → IsSettled (file_at (V.state stack.old) journal.0) }
     ensures steady { Steady (V.state stack.old) (V.state stack.new) }
     ensures cause { Caused (V.state stack.old) (V.state stack.new) result }
-    ensures stood { (exists : List ℕ → Bool) → (u : Undo) → TellsStops (V.state stack.old) journal.0 → PlaysTame (V.state stack.old) db.0 (initial_size u) → hot exists (file_at (V.state stack.old) journal.0).now.bytes ≡ Undoes u →
+    ensures stood { (exists : List ℕ → Bool) → (u : Undo) → IsTrue (V.state stack.old).tells → (file_at (V.state stack.old) db.0).wild ≡ false → (file_at (V.state stack.new) db.0).wild ≡ false → hot exists (file_at (V.state stack.old) journal.0).now.bytes ≡ Undoes u →
         AllHaveStood exists reserve (file_at (V.state stack.old) journal.0) (file_at (V.state stack.old) db.0) (file_at (V.state stack.new) journal.0) (file_at (V.state stack.new) db.0) }
     ensures stands { Stands (V.state stack.new) }
 {

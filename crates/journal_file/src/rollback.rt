@@ -11,7 +11,7 @@ ghost use Rattle.journal_format.specs.Undo.{Undo};
 ghost use Rattle.journal_format.specs.Journal.{Undoes, all_exist, hot};
 ghost use Rattle.journal_format.specs.Values.{undo_of};
 ghost use Rattle.journal_format.specs.Reading.{IsPlayable};
-ghost use Rattle.journal_file.specs.Tells.{TellsStops, PlaysTame, Reserves};
+ghost use Rattle.journal_file.specs.Tame.{IsSturdy, Reserves};
 ghost use Rattle.journal_file.specs.Content.{initial_size, with_reserve, IsUndone, AllStandFor, AllHaveStood};
 ghost use Rattle.journal_file.specs.Steps.{IsShut, IsKept, IsLong, IsHotOver, BothStayed, Exits, IsRead, CanPlayAt, IsWhole};
 
@@ -46,25 +46,25 @@ pub fn rollback_from<V: Vfs>(
     requires is_journal { kind_of (name_at (V.state stack.old) journal.0) ≡ Kind.Journal }
     requires reserves { Reserves (checked (V.state stack.old).layers) page reserve }
     requires hot { IsTrue (V.state stack.old).tells → IsHotOver page (file_at (V.state stack.old) journal.0) (file_at (V.state stack.old) db.0) }
-    requires settled { TellsStops (V.state stack.old) journal.0 → IsSettled (file_at (V.state stack.old) journal.0) }
+    requires settled { IsTrue (V.state stack.old).tells → IsSettled (file_at (V.state stack.old) journal.0) }
     ensures steady { Steady (V.state stack.old) (V.state stack.new) }
     ensures cause { Caused (V.state stack.old) (V.state stack.new) result }
     ensures limits { LimitsStay (V.state stack.old) (V.state stack.new) }
     ensures levels { LevelsStay (V.state stack.old) (V.state stack.new) }
     ensures opens { OpenStays (V.state stack.old) (V.state stack.new) }
     ensures lengths { LengthsBeside Kind.Main (V.state stack.old) (V.state stack.new) (name_at (V.state stack.old) db.0) }
-    ensures tame { (u : Undo) → hot all_exist (file_at (V.state stack.old) journal.0).now.bytes ≡ Undoes u → PlaysTame (V.state stack.old) db.0 (initial_size u) → (file_at (V.state stack.old) db.0).wild ≡ false → (file_at (V.state stack.new) db.0).wild ≡ false }
-    ensures stood { (exists : List ℕ → Bool) → (u : Undo) → TellsStops (V.state stack.old) journal.0 → PlaysTame (V.state stack.old) db.0 (initial_size u) → hot exists (file_at (V.state stack.old) journal.0).now.bytes ≡ Undoes u →
+    ensures tame { (u : Undo) → IsTrue (V.state stack.old).tells → hot all_exist (file_at (V.state stack.old) journal.0).now.bytes ≡ Undoes u → IsSturdy (V.state stack.old) (name_at (V.state stack.old) db.0) (initial_size u) → (file_at (V.state stack.new) db.0).wild ≡ false }
+    ensures stood { (exists : List ℕ → Bool) → (u : Undo) → IsTrue (V.state stack.old).tells → (file_at (V.state stack.old) db.0).wild ≡ false → (file_at (V.state stack.new) db.0).wild ≡ false → hot exists (file_at (V.state stack.old) journal.0).now.bytes ≡ Undoes u →
         initial_size u ≤ (file_at (V.state stack.old) db.0).shortest →
         AllHaveStood exists reserve (file_at (V.state stack.old) journal.0) (file_at (V.state stack.old) db.0) (file_at (V.state stack.new) journal.0) (file_at (V.state stack.new) db.0) }
-    ensures first { (exists : List ℕ → Bool) → (u : Undo) → (first : FileState) → TellsStops (V.state stack.old) journal.0 → PlaysTame (V.state stack.old) db.0 (initial_size u) →
+    ensures first { (exists : List ℕ → Bool) → (u : Undo) → (first : FileState) → IsTrue (V.state stack.old).tells → (file_at (V.state stack.new) db.0).wild ≡ false →
         hot exists (file_at (V.state stack.old) journal.0).now.bytes ≡ Undoes u → IsSettled first → IsTrue first.now.there →
         IsKept (with_reserve reserve u) first (file_at (V.state stack.old) db.0) → IsUndone (with_reserve reserve u) first.now first.now →
         AllStandFor exists reserve (file_at (V.state stack.new) journal.0) (file_at (V.state stack.new) db.0) first.now }
     ensures played { OnOk result ((u : Undo) → IsTrue (V.state stack.old).tells → hot all_exist (file_at (V.state stack.old) journal.0).now.bytes ≡ Undoes u →
         IsUndone (with_reserve reserve u) (file_at (V.state stack.old) db.0).now (file_at (V.state stack.new) db.0).now) }
-    ensures settled { OnOk result ((u : Undo) → hot all_exist (file_at (V.state stack.old) journal.0).now.bytes ≡ Undoes u → PlaysTame (V.state stack.old) db.0 (initial_size u) → IsSettled (file_at (V.state stack.new) db.0)) }
-    ensures shut { OnOk result (TellsStops (V.state stack.old) journal.0 → IsShut (file_at (V.state stack.new) journal.0)) }
+    ensures settled { OnOk result (IsTrue (V.state stack.old).tells → (file_at (V.state stack.new) db.0).wild ≡ false → IsSettled (file_at (V.state stack.new) db.0)) }
+    ensures shut { OnOk result (IsTrue (V.state stack.old).tells → IsShut (file_at (V.state stack.new) journal.0)) }
     ensures others { IsTrue (V.state stack.old).tells → BothStayed (V.state stack.old).layers (V.state stack.old).files (V.state stack.new).files (name_at (V.state stack.old) db.0) (name_at (V.state stack.old) journal.0) }
     ensures stands { Stands (V.state stack.new) }
 {
@@ -100,7 +100,7 @@ fn play_and_close<V: Vfs>(
     requires reserves { Reserves (checked (V.state stack.old).layers) found.now.page reserve }
     requires is_hot { IsTrue (V.state stack.old).tells → hot all_exist (file_at (V.state stack.old) journal.0).now.bytes ≡ Undoes (undo_of found.now) }
     requires long { IsTrue (V.state stack.old).tells → IsLong (undo_of found.now) (file_at (V.state stack.old) db.0) }
-    requires settled { TellsStops (V.state stack.old) journal.0 → IsSettled (file_at (V.state stack.old) journal.0) }
+    requires settled { IsTrue (V.state stack.old).tells → IsSettled (file_at (V.state stack.old) journal.0) }
     requires stands { Stands (V.state stack.old) }
     ensures steady { Steady (V.state stack.old) (V.state stack.new) }
     ensures cause { Caused (V.state stack.old) (V.state stack.new) result }
@@ -108,12 +108,12 @@ fn play_and_close<V: Vfs>(
     ensures levels { LevelsStay (V.state stack.old) (V.state stack.new) }
     ensures opens { OpenStays (V.state stack.old) (V.state stack.new) }
     ensures lengths { LengthsBeside Kind.Main (V.state stack.old) (V.state stack.new) (name_at (V.state stack.old) db.0) }
-    ensures exits { TellsStops (V.state stack.old) journal.0 → PlaysTame (V.state stack.old) db.0 (initial_size (undo_of found.now)) →
+    ensures exits { IsTrue (V.state stack.old).tells → (file_at (V.state stack.old) db.0).wild ≡ false → (file_at (V.state stack.new) db.0).wild ≡ false →
         Exits reserve (undo_of found.now) (file_at (V.state stack.old) journal.0) (file_at (V.state stack.old) db.0) (file_at (V.state stack.new) journal.0) (file_at (V.state stack.new) db.0) }
-    ensures tame { PlaysTame (V.state stack.old) db.0 (initial_size (undo_of found.now)) → (file_at (V.state stack.old) db.0).wild ≡ false → (file_at (V.state stack.new) db.0).wild ≡ false }
+    ensures tame { IsTrue (V.state stack.old).tells → IsSturdy (V.state stack.old) (name_at (V.state stack.old) db.0) (initial_size (undo_of found.now)) → (file_at (V.state stack.new) db.0).wild ≡ false }
     ensures played { OnOk result (IsTrue (V.state stack.old).tells → IsUndone (with_reserve reserve (undo_of found.now)) (file_at (V.state stack.old) db.0).now (file_at (V.state stack.new) db.0).now) }
-    ensures settled { OnOk result (PlaysTame (V.state stack.old) db.0 (initial_size (undo_of found.now)) → IsSettled (file_at (V.state stack.new) db.0)) }
-    ensures shut { OnOk result (TellsStops (V.state stack.old) journal.0 → IsShut (file_at (V.state stack.new) journal.0)) }
+    ensures settled { OnOk result (IsTrue (V.state stack.old).tells → (file_at (V.state stack.new) db.0).wild ≡ false → IsSettled (file_at (V.state stack.new) db.0)) }
+    ensures shut { OnOk result (IsTrue (V.state stack.old).tells → IsShut (file_at (V.state stack.new) journal.0)) }
     ensures others { IsTrue (V.state stack.old).tells → BothStayed (V.state stack.old).layers (V.state stack.old).files (V.state stack.new).files (name_at (V.state stack.old) db.0) (name_at (V.state stack.old) journal.0) }
     ensures stands { Stands (V.state stack.new) }
 {

@@ -10,9 +10,9 @@ returns-clause-settled g c =
     let s = state c.sync.new.self in
     let fid = c.args.journal.0 in
     synced_settled _ _ c.sync.result _
-    (λ t. left_at b s fid _ c.sync.ensures.rests.opens c.sync.ensures.leaves (told_next a b c.write.ensures.steady t.told))
-    (λ t. (left_at a b fid _ c.write.ensures.rests.opens c.in_ok-write.ensures.leaves t.told).touched.sure (c.requires.settled t).sure)
-    (λ t. tame_now s fid (tells_next b s fid c.sync.ensures.steady c.sync.ensures.rests.opens (tells_next a b fid c.write.ensures.steady c.write.ensures.rests.opens t)) c.sync.ensures.stands)
+    (λ told. left_at b s fid _ c.sync.ensures.rests.opens c.sync.ensures.leaves (told_next a b c.write.ensures.steady told))
+    (λ told. (left_at a b fid _ c.write.ensures.rests.opens c.in_ok-write.ensures.leaves told).touched.sure (c.requires.settled told).sure)
+    (λ told. tame_now c.never_wild.ensures.journals s fid (tells_next b s fid c.sync.ensures.steady c.sync.ensures.rests.opens (tells_next a b fid c.write.ensures.steady c.write.ensures.rests.opens (record { told = told; is = c.requires.is_journal }))) c.sync.ensures.stands)
 
 pub returns-clause-set : goal.returns-clause-set
 returns-clause-set g c =

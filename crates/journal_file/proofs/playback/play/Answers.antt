@@ -4,7 +4,7 @@ use Rattle.vfs_model.specs.Name.{kind_of}
 use Rattle.vfs_trait.specs.State.{file_at}
 use Rattle.vfs_trait.specs.Calls.{checked}
 use Rattle.journal_format.specs.Values.{undo_of}
-use Rattle.journal_file.specs.Tells.{Reserves}
+use Rattle.journal_file.specs.Tame.{Reserves}
 use Rattle.journal_file.specs.Content.{initial_size, with_reserve}
 use Rattle.journal_file.proofs.StackLemmas.{left_at, told_next, name_stays}
 use Rattle.journal_file.proofs.JournalLemmas.{always, sync_stays}
@@ -35,7 +35,7 @@ returns-in_err-cut-clause-kept g c =
     let first = c.write_originals.ensures in
     let len : c.from.result * c.from-2.result ≡ initial_size (undo_of c.args.play.now) = ap (λ n. n * c.from-2.result) c.from.ensures ∙ ap (λ n. c.args.play.now.initial * n) c.from-2.ensures in
     (cut_gone c.looser_twice.ensures u (state c.args.stack.now) (state c.write_originals.new.stack) (state c.cut.new.self) c.args.db.0 (initial_size (undo_of c.args.play.now)) _ c.cut.result
-    (record { steady = first.steady; rests = first.rests; kept = first.kept; others = first.others; stands = first.stands })
+    (record { steady = first.steady; rests = first.rests; kept = first.kept; tame = first.tame; others = first.others; stands = first.stands })
     (λ told. (c.in_ok-write_originals.ensures.laid told).size) c.cut.ensures.steady c.cut.ensures.rests c.cut.ensures.leaves c.cut.ensures.stands len refl).kept
 
 pub returns-clause-kept : goal.returns-clause-kept
@@ -44,13 +44,47 @@ returns-clause-kept g c =
     let u = with_reserve c.args.reserve (undo_of c.args.play.now) in
     let first = c.write_originals.ensures in
     let len : c.from.result * c.from-2.result ≡ initial_size (undo_of c.args.play.now) = ap (λ n. n * c.from-2.result) c.from.ensures ∙ ap (λ n. c.args.play.now.initial * n) c.from-2.ensures in
-    (sync_gone c.looser_twice.ensures u (state c.args.stack.now) (state c.cut.new.self) (state c.sync.new.self) c.args.db.0 (initial_size (undo_of c.args.play.now)) c.sync.result
+    (sync_gone c.looser_twice.ensures u (state c.args.stack.now) (state c.write_originals.new.stack) (state c.cut.new.self) (state c.sync.new.self) c.args.db.0 (initial_size (undo_of c.args.play.now)) _ c.sync.result
     (cut_gone c.looser_twice.ensures u (state c.args.stack.now) (state c.write_originals.new.stack) (state c.cut.new.self) c.args.db.0 (initial_size (undo_of c.args.play.now)) _ c.cut.result
-    (record { steady = first.steady; rests = first.rests; kept = first.kept; others = first.others; stands = first.stands })
+    (record { steady = first.steady; rests = first.rests; kept = first.kept; tame = first.tame; others = first.others; stands = first.stands })
     (λ told. (c.in_ok-write_originals.ensures.laid told).size) c.cut.ensures.steady c.cut.ensures.rests c.cut.ensures.leaves c.cut.ensures.stands len refl)
     c.requires.is_open
-    (λ told. let was_cut = left_at (state c.write_originals.new.stack) (state c.cut.new.self) c.args.db.0 _ c.cut.ensures.rests.opens c.in_ok-cut.ensures.leaves (told_next _ _ first.steady told) in omega (arith, was_cut.size, len))
+    (λ told. record {
+      long = (c.requires.long told).long;
+      has = c.in_ok-write_originals.ensures.laid told;
+      was_cut = left_at (state c.write_originals.new.stack) (state c.cut.new.self) c.args.db.0 _ c.cut.ensures.rests.opens c.in_ok-cut.ensures.leaves (told_next _ _ first.steady told);
+      is = len;
+    })
     c.sync.ensures.steady c.sync.ensures.rests c.sync.ensures.leaves c.sync.ensures.stands).kept
+
+pub returns-in_err-cut-clause-tame : goal.returns-in_err-cut-clause-tame
+returns-in_err-cut-clause-tame g c =
+    let state = g.V.Vfs.state in
+    let u = with_reserve c.args.reserve (undo_of c.args.play.now) in
+    let first = c.write_originals.ensures in
+    let len : c.from.result * c.from-2.result ≡ initial_size (undo_of c.args.play.now) = ap (λ n. n * c.from-2.result) c.from.ensures ∙ ap (λ n. c.args.play.now.initial * n) c.from-2.ensures in
+    (cut_gone c.looser_twice.ensures u (state c.args.stack.now) (state c.write_originals.new.stack) (state c.cut.new.self) c.args.db.0 (initial_size (undo_of c.args.play.now)) _ c.cut.result
+    (record { steady = first.steady; rests = first.rests; kept = first.kept; tame = first.tame; others = first.others; stands = first.stands })
+    (λ told. (c.in_ok-write_originals.ensures.laid told).size) c.cut.ensures.steady c.cut.ensures.rests c.cut.ensures.leaves c.cut.ensures.stands len refl).tame
+
+pub returns-clause-tame : goal.returns-clause-tame
+returns-clause-tame g c =
+    let state = g.V.Vfs.state in
+    let u = with_reserve c.args.reserve (undo_of c.args.play.now) in
+    let first = c.write_originals.ensures in
+    let len : c.from.result * c.from-2.result ≡ initial_size (undo_of c.args.play.now) = ap (λ n. n * c.from-2.result) c.from.ensures ∙ ap (λ n. c.args.play.now.initial * n) c.from-2.ensures in
+    (sync_gone c.looser_twice.ensures u (state c.args.stack.now) (state c.write_originals.new.stack) (state c.cut.new.self) (state c.sync.new.self) c.args.db.0 (initial_size (undo_of c.args.play.now)) _ c.sync.result
+    (cut_gone c.looser_twice.ensures u (state c.args.stack.now) (state c.write_originals.new.stack) (state c.cut.new.self) c.args.db.0 (initial_size (undo_of c.args.play.now)) _ c.cut.result
+    (record { steady = first.steady; rests = first.rests; kept = first.kept; tame = first.tame; others = first.others; stands = first.stands })
+    (λ told. (c.in_ok-write_originals.ensures.laid told).size) c.cut.ensures.steady c.cut.ensures.rests c.cut.ensures.leaves c.cut.ensures.stands len refl)
+    c.requires.is_open
+    (λ told. record {
+      long = (c.requires.long told).long;
+      has = c.in_ok-write_originals.ensures.laid told;
+      was_cut = left_at (state c.write_originals.new.stack) (state c.cut.new.self) c.args.db.0 _ c.cut.ensures.rests.opens c.in_ok-cut.ensures.leaves (told_next _ _ first.steady told);
+      is = len;
+    })
+    c.sync.ensures.steady c.sync.ensures.rests c.sync.ensures.leaves c.sync.ensures.stands).tame
 
 pub returns-clause-played : goal.returns-clause-played
 returns-clause-played g c =

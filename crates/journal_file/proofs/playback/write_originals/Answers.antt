@@ -37,6 +37,18 @@ returns-in_err-write_page-clause-kept g c =
     c.write_page.ensures.steady c.write_page.ensures.rests c.write_page.ensures.leaves c.write_page.ensures.stands
     (is_page c.args.play.now c.args.reserve p (reserve_fits _ _ c.args.reserve c.requires.reserves) c.requires.playable m) (λ told. (c.requires.long told).long)).kept
 
+pub returns-in_err-write_page-clause-tame : goal.returns-in_err-write_page-clause-tame
+returns-in_err-write_page-clause-tame g c =
+    let state = g.V.Vfs.state in
+    let u = with_reserve c.args.reserve (undo_of c.args.play.now) in
+    let p = c.page-item.result in
+    let pages = c.as_slice-pages.result.now in
+    let m = among_play c.args.play.now c.args.reserve pages c.loop-page.page-index p c.as_slice-pages.ensures c.loop-page-test.true c.page-item.is c.requires.playable in
+    (page_gone c.looser_twice.ensures c.pages_cover.ensures u p.number (cleared c.args.reserve p.bytes) (all_cleared c.args.reserve (all_paged (drop c.loop-page.page-index pages)))
+    (state c.args.stack.now) (state c.loop-page.stack) (state c.write_page.new.stack) c.args.db.0 (initial_size (undo_of c.args.play.now)) c.write_page.result c.loop-page.invariant
+    c.write_page.ensures.steady c.write_page.ensures.rests c.write_page.ensures.leaves c.write_page.ensures.stands
+    (is_page c.args.play.now c.args.reserve p (reserve_fits _ _ c.args.reserve c.requires.reserves) c.requires.playable m) (λ told. (c.requires.long told).long)).tame
+
 pub loop-page-preserved : goal.loop-page-preserved
 loop-page-preserved g c =
     let state = g.V.Vfs.state in

@@ -1,19 +1,18 @@
 use Rattle.std.proofs.Common.{arith, false, ◌≡◌, sym, ◌∙◌, ap, subst}
-use Rattle.vfs_model.specs.File.{Found, IsSettled}
+use Rattle.vfs_model.specs.File.{Found}
 use Rattle.vfs_model.specs.Effect.{NoLooser}
 use Rattle.vfs_trait.specs.State.{file_at, name_at}
 use Rattle.journal_format.specs.Undo.{Undo}
 use Rattle.journal_format.specs.Journal.{hot}
 use Rattle.journal_format.specs.Values.{undo_of}
 use Rattle.journal_file.specs.Content.{initial_size, with_reserve, IsUndone}
-use Rattle.journal_file.specs.Tells.{TellsStops, PlaysTame}
+use Rattle.journal_file.specs.Tame.{IsSturdy}
 use Rattle.journal_file.specs.Steps.{Exits, IsLong}
-use Rattle.journal_file.proofs.StackLemmas.{left_at, told_next, tells_next, orderly_now}
+use Rattle.journal_file.proofs.StackLemmas.{left_at, told_next, orderly_now}
 use Rattle.journal_file.proofs.PlaceLemmas.{kept_kept, stays_kept}
-use Rattle.journal_file.proofs.PlayLemmas.{tame_at}
 use Rattle.journal_file.proofs.ExitLemmas.{stood_stood}
 use Rattle.journal_file.proofs.HotLemmas.{undo_is, undo_none}
-use Rattle.journal_file.proofs.RollbackLemmas.{looser_long, both_after, apart_names, other_stays, open_exits, on_ok, all_hot, this_page, plays_next, stays_stood_by}
+use Rattle.journal_file.proofs.RollbackLemmas.{looser_long, both_after, apart_names, other_stays, open_exits, on_ok, all_hot, this_page, sturdy_next, stays_stood_by}
 use Rattle.journal_file.proofs.rollback.rollback_from.Goals as goal
 
 pub returns-in_err-found-clause-stood : goal.returns-in_err-found-clause-stood
@@ -25,9 +24,9 @@ returns-in_err-found-clause-stood g c =
     let jr = c.args.journal.0 in
     let stands = c.view_holds.ensures.stands in
     let apart = apart_names a jr db stands c.requires.journal_open c.requires.db_open (λ k. c.requires.two (sym k)) in
-    λ exists u t p is_hot enough.
-    stays_stood_by c.older_images.ensures exists c.args.reserve (file_at a jr) (file_at a db) (file_at b jr) (file_at b db) (left_at a b jr _ c.read_play.ensures.rests.opens c.read_play.ensures.leaves t.told)
-    (other_stays a b jr db (c.read_play.ensures.leaves.others t.told) c.read_play.ensures.rests.opens apart)
+    λ exists u told was tame is_hot enough.
+    stays_stood_by c.older_images.ensures exists c.args.reserve (file_at a jr) (file_at a db) (file_at b jr) (file_at b db) (left_at a b jr _ c.read_play.ensures.rests.opens c.read_play.ensures.leaves told)
+    (other_stays a b jr db (c.read_play.ensures.leaves.others told) c.read_play.ensures.rests.opens apart)
 
 pub returns-in_err-found-clause-first : goal.returns-in_err-found-clause-first
 returns-in_err-found-clause-first g c =
@@ -38,12 +37,12 @@ returns-in_err-found-clause-first g c =
     let jr = c.args.journal.0 in
     let stands = c.view_holds.ensures.stands in
     let apart = apart_names a jr db stands c.requires.journal_open c.requires.db_open (λ k. c.requires.two (sym k)) in
-    λ exists u first t p is_hot settled there kept same.
-    let long = (c.requires.hot t.told).long in
+    λ exists u first told tame is_hot settled there kept same.
+    let long = (c.requires.hot told).long in
     (open_exits c.short_is_cold.ensures c.now_is_image.ensures c.settled_stays.ensures c.older_images.ensures c.kept_image.ensures c.args.reserve u (file_at a jr) (file_at a db) (file_at b jr) (file_at b db)
-    (record { settled = c.requires.settled t; orderly_j = orderly_now a (name_at a jr) t.told stands; there = long.there; sure = long.sure; tame = tame_at a db (initial_size u) p stands; orderly = orderly_now a (name_at a db) t.told stands })
-    (left_at a b jr _ c.read_play.ensures.rests.opens c.read_play.ensures.leaves t.told)
-    (stays_kept (with_reserve c.args.reserve u) (file_at a db) (file_at b db) (other_stays a b jr db (c.read_play.ensures.leaves.others t.told) c.read_play.ensures.rests.opens apart))).first exists first is_hot settled there kept same
+    (record { settled = c.requires.settled told; orderly_j = orderly_now a (name_at a jr) told stands; there = long.there; sure = long.sure; tame = kept.tame settled.tame; orderly = orderly_now a (name_at a db) told stands })
+    (left_at a b jr _ c.read_play.ensures.rests.opens c.read_play.ensures.leaves told)
+    (stays_kept (with_reserve c.args.reserve u) (file_at a db) (file_at b db) (other_stays a b jr db (c.read_play.ensures.leaves.others told) c.read_play.ensures.rests.opens apart))).first exists first is_hot settled there kept same
 
 pub returns-in-Some-clause-stood : goal.returns-in-Some-clause-stood
 returns-in-Some-clause-stood g c =
@@ -56,16 +55,16 @@ returns-in-Some-clause-stood g c =
     let stands = c.view_holds.ensures.stands in
     let read = c.read_play.ensures in
     let apart = apart_names a jr db stands c.requires.journal_open c.requires.db_open (λ k. c.requires.two (sym k)) in
-    λ exists u t p is_hot enough.
-    let js : NoLooser (file_at a jr) (file_at b jr) = left_at a b jr NoLooser read.rests.opens read.leaves t.told in
-    let ds : NoLooser (file_at a db) (file_at b db) = other_stays a b jr db (read.leaves.others t.told) read.rests.opens apart in
+    λ exists u told was tame is_hot enough.
+    let js : NoLooser (file_at a jr) (file_at b jr) = left_at a b jr NoLooser read.rests.opens read.leaves told in
+    let ds : NoLooser (file_at a db) (file_at b db) = other_stays a b jr db (read.leaves.others told) read.rests.opens apart in
     let all = all_hot c.asked.ensures exists (file_at a jr).now.bytes u is_hot in
-    let this : undo_of c.in-Some.found ≡ u = undo_is u _ c.in-Some.found c.in-Some.is (c.in_ok-found.ensures.read t.told u all (this_page c.args.page (file_at a jr) (file_at a db) u (c.requires.hot t.told) all)) in
-    let P : Undo → Type 0 = λ v. TellsStops b jr → PlaysTame b db (initial_size v) → Exits c.args.reserve v (file_at b jr) (file_at b db) (file_at e jr) (file_at e db) in
-    let exits = (subst P this c.play_and_close.ensures.exits) (tells_next a b jr read.steady read.rests.opens t) (plays_next a b db (initial_size u) read.steady read.rests.opens ds p) in
+    let this : undo_of c.in-Some.found ≡ u = undo_is u _ c.in-Some.found c.in-Some.is (c.in_ok-found.ensures.read told u all (this_page c.args.page (file_at a jr) (file_at a db) u (c.requires.hot told) all)) in
+    let P : Undo → Type 0 = λ v. Exits c.args.reserve v (file_at b jr) (file_at b db) (file_at e jr) (file_at e db) in
+    let exits = subst P this (c.play_and_close.ensures.exits (told_next a b read.steady told) (ds.tame was) tame) in
     stood_stood exists c.args.reserve (file_at a jr) (file_at a db) (file_at b jr) (file_at b db) (file_at e jr) (file_at e db)
     (stays_stood_by c.older_images.ensures exists c.args.reserve (file_at a jr) (file_at a db) (file_at b jr) (file_at b db) js ds)
-    (exits.stood exists (ap (λ f. hot exists f.bytes) js.now ∙ is_hot) (omega (arith, enough, (ds.stop (tame_at a db (initial_size u) p stands)).floor_is)))
+    (exits.stood exists (ap (λ f. hot exists f.bytes) js.now ∙ is_hot) (omega (arith, enough, (ds.stop was).floor_is)))
 
 pub returns-in-Some-clause-first : goal.returns-in-Some-clause-first
 returns-in-Some-clause-first g c =
@@ -78,37 +77,25 @@ returns-in-Some-clause-first g c =
     let stands = c.view_holds.ensures.stands in
     let read = c.read_play.ensures in
     let apart = apart_names a jr db stands c.requires.journal_open c.requires.db_open (λ k. c.requires.two (sym k)) in
-    λ exists u first t p is_hot settled there kept same.
-    let js : NoLooser (file_at a jr) (file_at b jr) = left_at a b jr NoLooser read.rests.opens read.leaves t.told in
-    let ds : NoLooser (file_at a db) (file_at b db) = other_stays a b jr db (read.leaves.others t.told) read.rests.opens apart in
+    λ exists u first told tame is_hot settled there kept same.
+    let js : NoLooser (file_at a jr) (file_at b jr) = left_at a b jr NoLooser read.rests.opens read.leaves told in
+    let ds : NoLooser (file_at a db) (file_at b db) = other_stays a b jr db (read.leaves.others told) read.rests.opens apart in
     let all = all_hot c.asked.ensures exists (file_at a jr).now.bytes u is_hot in
-    let this : undo_of c.in-Some.found ≡ u = undo_is u _ c.in-Some.found c.in-Some.is (c.in_ok-found.ensures.read t.told u all (this_page c.args.page (file_at a jr) (file_at a db) u (c.requires.hot t.told) all)) in
-    let P : Undo → Type 0 = λ v. TellsStops b jr → PlaysTame b db (initial_size v) → Exits c.args.reserve v (file_at b jr) (file_at b db) (file_at e jr) (file_at e db) in
-    let exits = (subst P this c.play_and_close.ensures.exits) (tells_next a b jr read.steady read.rests.opens t) (plays_next a b db (initial_size u) read.steady read.rests.opens ds p) in
+    let this : undo_of c.in-Some.found ≡ u = undo_is u _ c.in-Some.found c.in-Some.is (c.in_ok-found.ensures.read told u all (this_page c.args.page (file_at a jr) (file_at a db) u (c.requires.hot told) all)) in
+    let P : Undo → Type 0 = λ v. Exits c.args.reserve v (file_at b jr) (file_at b db) (file_at e jr) (file_at e db) in
+    let exits = subst P this (c.play_and_close.ensures.exits (told_next a b read.steady told) (ds.tame (kept.tame settled.tame)) tame) in
     exits.first exists first (ap (λ f. hot exists f.bytes) js.now ∙ is_hot) settled there
     (kept_kept (with_reserve c.args.reserve u) first (file_at a db) (file_at b db) kept (stays_kept (with_reserve c.args.reserve u) (file_at a db) (file_at b db) ds)) same
 
 pub returns-in-Some-clause-shut : goal.returns-in-Some-clause-shut
 returns-in-Some-clause-shut g c =
     let state = g.V.Vfs.state in
-    on_ok c.play_and_close.result _ _ (λ h t. h (tells_next (state c.args.stack.now) (state c.read_play.new.stack) c.args.journal.0 c.read_play.ensures.steady c.read_play.ensures.rests.opens t)) c.play_and_close.ensures.shut
+    on_ok c.play_and_close.result _ _ (λ h told. h (told_next (state c.args.stack.now) (state c.read_play.new.stack) c.read_play.ensures.steady told)) c.play_and_close.ensures.shut
 
 pub returns-in-Some-clause-settled : goal.returns-in-Some-clause-settled
 returns-in-Some-clause-settled g c =
     let state = g.V.Vfs.state in
-    let a = state c.args.stack.now in
-    let b = state c.read_play.new.stack in
-    let e = state c.play_and_close.new.stack in
-    let db = c.args.db.0 in
-    let jr = c.args.journal.0 in
-    let stands = c.view_holds.ensures.stands in
-    let read = c.read_play.ensures in
-    let apart = apart_names a jr db stands c.requires.journal_open c.requires.db_open (λ k. c.requires.two (sym k)) in
-    on_ok c.play_and_close.result _ _ (λ h u all p.
-    let ds : NoLooser (file_at a db) (file_at b db) = other_stays a b jr db (read.leaves.others p.told) read.rests.opens apart in
-    let this : undo_of c.in-Some.found ≡ u = undo_is u _ c.in-Some.found c.in-Some.is (c.in_ok-found.ensures.read p.told u all (this_page c.args.page (file_at a jr) (file_at a db) u (c.requires.hot p.told) all)) in
-    let P : Undo → Type 0 = λ v. PlaysTame b db (initial_size v) → IsSettled (file_at e db) in
-    (subst P this h) (plays_next a b db (initial_size u) read.steady read.rests.opens ds p)) c.play_and_close.ensures.settled
+    on_ok c.play_and_close.result _ _ (λ h told. h (told_next (state c.args.stack.now) (state c.read_play.new.stack) c.read_play.ensures.steady told)) c.play_and_close.ensures.settled
 
 pub returns-in_err-found-clause-tame : goal.returns-in_err-found-clause-tame
 returns-in_err-found-clause-tame g c =
@@ -120,7 +107,7 @@ returns-in_err-found-clause-tame g c =
     let stands = c.view_holds.ensures.stands in
     let read = c.read_play.ensures in
     let apart = apart_names a jr db stands c.requires.journal_open c.requires.db_open (λ k. c.requires.two (sym k)) in
-    λ u all p wild. (other_stays a b jr db (read.leaves.others p.told) read.rests.opens apart).tame wild
+    λ u told all sturdy. (other_stays a b jr db (read.leaves.others told) read.rests.opens apart).tame sturdy.tame
 
 pub play_and_close-requires-clause-long : goal.play_and_close-requires-clause-long
 play_and_close-requires-clause-long g c =
@@ -150,11 +137,11 @@ returns-in-Some-clause-tame g c =
     let read = c.read_play.ensures in
     let apart = apart_names a jr db stands c.requires.journal_open c.requires.db_open (λ k. c.requires.two (sym k)) in
     let e = state c.play_and_close.new.stack in
-    λ u all p wild.
-    let ds : NoLooser (file_at a db) (file_at b db) = other_stays a b jr db (read.leaves.others p.told) read.rests.opens apart in
-    let this : undo_of c.in-Some.found ≡ u = undo_is u _ c.in-Some.found c.in-Some.is (c.in_ok-found.ensures.read p.told u all (this_page c.args.page (file_at a jr) (file_at a db) u (c.requires.hot p.told) all)) in
-    let P : Undo → Type 0 = λ v. PlaysTame b db (initial_size v) → (file_at b db).wild ≡ false → (file_at e db).wild ≡ false in
-    (subst P this c.play_and_close.ensures.tame) (plays_next a b db (initial_size u) read.steady read.rests.opens ds p) (ds.tame wild)
+    λ u told all sturdy.
+    let ds : NoLooser (file_at a db) (file_at b db) = other_stays a b jr db (read.leaves.others told) read.rests.opens apart in
+    let this : undo_of c.in-Some.found ≡ u = undo_is u _ c.in-Some.found c.in-Some.is (c.in_ok-found.ensures.read told u all (this_page c.args.page (file_at a jr) (file_at a db) u (c.requires.hot told) all)) in
+    let P : Undo → Type 0 = λ v. IsSturdy b (name_at b db) (initial_size v) → (file_at e db).wild ≡ false in
+    (subst P this (c.play_and_close.ensures.tame (told_next a b read.steady told))) (sturdy_next a b db (initial_size u) read.rests.opens ds sturdy)
 
 pub returns-in-Some-clause-played : goal.returns-in-Some-clause-played
 returns-in-Some-clause-played g c =
@@ -189,6 +176,6 @@ returns-in-None-clause-first g c =
     let a = state c.args.stack.now in
     let db = c.args.db.0 in
     let jr = c.args.journal.0 in
-    λ exists u first t p is_hot settled there kept same.
+    λ exists u first told tame is_hot settled there kept same.
     let all = all_hot c.asked.ensures exists (file_at a jr).now.bytes u is_hot in
-    absurd (undo_none u _ c.in-None.is (c.in_ok-found.ensures.read t.told u all (this_page c.args.page (file_at a jr) (file_at a db) u (c.requires.hot t.told) all)))
+    absurd (undo_none u _ c.in-None.is (c.in_ok-found.ensures.read told u all (this_page c.args.page (file_at a jr) (file_at a db) u (c.requires.hot told) all)))

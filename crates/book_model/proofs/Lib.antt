@@ -5,3 +5,4 @@ pub mod StayLemmas
 pub mod SpellLemmas
 pub mod RangeLemmas
 pub mod SizeLemmas
+pub mod ForeignLemmas

@@ -4,7 +4,7 @@
 //! After sqlite.org, "Database File Format", section 2.6, "Storage Of The SQL Database Schema".
 #![tactic(auto)]
 
-ghost use Rattle.book_model.specs.Laws.{BookOfPages, BookStays, BookCounts, RecordHasSize};
+ghost use Rattle.book_model.specs.Laws.{BookOfPages, BookStays, BookCounts, RecordHasSize, ForeignNames};
 
 use db_format::one_record;
 use tree_laws::pages_add_up;
@@ -36,4 +36,9 @@ pub fn book_counts()
 /// The shortest record of some values has the size that books reckon with.
 pub fn record_has_size()
     ensures { RecordHasSize }
+{}
+
+/// The foreign names of a book are those of the tables of its schema that are not plain, each of them once.
+pub fn foreign_names()
+    ensures { ForeignNames }
 {}

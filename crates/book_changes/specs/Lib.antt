@@ -1,0 +1,5 @@
+pub mod Changes
+pub mod Rows
+pub mod Tables
+pub mod First
+pub mod Names

@@ -1,3 +1,4 @@
 pub mod Codes
 pub mod Shelf
 pub mod Steps
+pub mod Loaded

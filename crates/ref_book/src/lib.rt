@@ -2,6 +2,9 @@
 //! book.
 #![tactic(auto)]
 
+mod entries;
+mod foreign;
+mod load;
 mod names;
 mod row;
 mod schema;

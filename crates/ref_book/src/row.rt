@@ -37,6 +37,16 @@ impl KeptRow {
         }
     }
 
+    /// A row as it was found, whose payload takes so many bytes.
+    pub(crate) fn stored(values: Record, size: u64) -> KeptRow
+        ensures { result ≡ record { values = values; size = size } }
+    {
+        KeptRow {
+            values,
+            stored: Some(size),
+        }
+    }
+
     /// Its values.
     pub(crate) fn values(&self) -> &[Value]
         ensures { result.now ≡ self.now.values }

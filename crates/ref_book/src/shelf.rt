@@ -8,20 +8,32 @@ ghost use Rattle.std.specs.Str.{str_eq_ignore_ascii_case};
 ghost use Rattle.std.specs.Cmp.Lexicographic.{slice_cmp};
 ghost use Rattle.std.specs.FinMap as map;
 ghost use Rattle.std.specs.FinMap.{is_sorted, from_sorted};
+ghost use Rattle.page_list.specs.Pages.{HasPage};
+ghost use Rattle.ref_pages.specs.AsPages.{pages_of};
+ghost use Rattle.ref_book.specs.Loaded.{AreNumbers, IsPut};
 ghost use Rattle.shell_model.specs.Cases.{row_reply};
 ghost use Rattle.db_format.specs.declared.table_list.TableEntry.TheVariants.{Plain, Foreign};
 
+use crate::entries::rows_by_rowid;
+use crate::foreign::foreign_of;
+use crate::load::{Schema, names_of, page_size, push_tables, schema_of, unnamed_of};
 use crate::names::{is_foreign_name, is_table_name, is_taken_name};
 use crate::row::KeptRow;
 use crate::schema::{entry_row, next_entry};
 use crate::sorted::{find, sorted, with_entry, without_entry};
 use crate::table::KeptTable;
 use crate::twin::{Twin, twins};
+use book_model::book_of_pages;
 use byte_base::{ByteLists, Bytes};
-use db_format::{Record, TableEntry, TableList};
+use db_format::{Record, TableEntry, TableList, one_create, one_record};
+use page_list::one_freelist;
+use ref_pages::word_of;
+use ref_schema::is_whole;
 use ref_shell::Shelf;
+use ref_trees::RefPages;
 use shell_lang::{Reply, ScanEnd};
 use std::alloc::{AllocError, Global};
+use tree_model::one_tree;
 
 /// Keeps a book in sorted lists.
 #[derive(Debug, Drop)]
@@ -51,7 +63,13 @@ struct Numbers {
 }
 
 impl MapShelf {
-    ghost use Rattle.book_model.specs.Book.{empty_book, table_at, next_entry, foreign_names};
+    ghost use Rattle.std.specs.Prelude.{IfSome, IfNone};
+    ghost use Rattle.page_list.specs.Pages.{HasPage};
+    ghost use Rattle.tree_model.specs.Database.{IsWhole};
+    ghost use Rattle.book_model.specs.Pages.{IsBookOf, IsBook};
+    ghost use Rattle.ref_pages.specs.AsPages.{pages_of};
+    ghost use Rattle.ref_book.specs.Loaded.{IsPut};
+    ghost use Rattle.book_model.specs.Book.{Book, empty_book, table_at, next_entry, foreign_names};
     ghost use Rattle.ref_book.specs.Shelf.{book_of};
     ghost use Rattle.ref_book.specs.Steps.{emptied};
 
@@ -73,6 +91,74 @@ impl MapShelf {
                 usable,
             },
         }
+    }
+
+    /// The book of pages; `None` where they are not whole. Where there is no page, the page size is that which is given.
+    pub fn of_pages(
+        alloc: Global,
+        page: u32,
+        pages: &RefPages,
+    ) -> Result<Option<MapShelf>, AllocError>
+        ensures found { IfOk result (λ found. IfSome found (λ shelf. IsBook page (pages_of pages.now) (book_of shelf))) }
+        ensures none { IfOk result (λ found. IfNone found ((book : Book) → ¬ (IsBook page (pages_of pages.now) book))) }
+    {
+        book_of_pages();
+        if is_whole(alloc, pages)?.is_err() {
+            return Ok(None);
+        }
+        if pages.size() == 0 {
+            return Ok(Some(MapShelf::new(alloc, page, pages.usable())));
+        }
+        MapShelf::of_some_pages(alloc, pages)
+    }
+
+    /// The book of whole pages, of which there are some.
+    fn of_some_pages(alloc: Global, pages: &RefPages) -> Result<Option<MapShelf>, AllocError>
+        requires { HasPage (pages_of pages.now) 1 }
+        ensures found { IfOk result (λ found. IfSome found (λ shelf. IsWhole (pages_of pages.now) → IsBookOf (pages_of pages.now) (book_of shelf))) }
+        ensures none { IfOk result (λ found. IfNone found (¬ (IsWhole (pages_of pages.now)))) }
+    {
+        one_tree();
+        one_record();
+        one_create();
+        one_freelist();
+        let Some(schema) = schema_of(alloc, pages)? else {
+            return Ok(None);
+        };
+        let mut listed = Vec::new(alloc);
+        if !push_tables(alloc, pages, &mut listed, &schema.rows, &schema.found)? {
+            return Ok(None);
+        }
+        let Some(named) = names_of(alloc, pages, &schema.found)? else {
+            return Ok(None);
+        };
+        let shelf = MapShelf::of_parts(alloc, pages, &schema, &listed, &named)?;
+        Ok(Some(shelf))
+    }
+
+    /// The book of what was read.
+    fn of_parts(
+        alloc: Global,
+        pages: &RefPages,
+        schema: &Schema,
+        listed: &[(Bytes, KeptTable)],
+        named: &[u32],
+    ) -> Result<MapShelf, AllocError>
+        requires { HasPage (pages_of pages.now) 1 }
+        ensures { IfOk result (λ shelf. IsPut (pages_of pages.now) schema.now.rows.items schema.now.records.items schema.now.found.items listed.now named.now (book_of shelf)) }
+    {
+        let tables = sorted(alloc, listed)?;
+        let foreign = foreign_of(alloc, &schema.records, &schema.found)?;
+        let rows = rows_by_rowid(alloc, &schema.rows, &schema.records, 5)?;
+        let unnamed = unnamed_of(alloc, pages, named)?;
+        Ok(MapShelf {
+            alloc,
+            tables,
+            foreign,
+            schema: rows,
+            unnamed,
+            numbers: Numbers::of_pages(pages),
+        })
     }
 
     /// The table of a name, where there is one.
@@ -187,6 +273,20 @@ impl MapShelf {
 }
 
 impl Numbers {
+    /// The numbers of pages, of which there are some.
+    fn of_pages(pages: &RefPages) -> Numbers
+        requires { HasPage (pages_of pages.now) 1 }
+        ensures { AreNumbers (pages_of pages.now) result.counter result.pages result.free result.page result.usable }
+    {
+        Numbers {
+            counter: word_of(pages, 1, 24),
+            pages: pages.size() as usize,
+            free: word_of(pages, 1, 36) as usize,
+            page: page_size(pages),
+            usable: pages.usable(),
+        }
+    }
+
     /// Every page is free but those that nothing names.
     fn emptied(self, unnamed: usize) -> Numbers
         ensures { result ≡ record self { pages = max self.pages unnamed; free = max self.pages unnamed - unnamed } }

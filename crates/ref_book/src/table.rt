@@ -1,9 +1,10 @@
 //! A plain table.
 
-ghost use Rattle.std.specs.Prelude.{◌≡◌, length, IfOk, OnOk, ◌++◌, map, filter, ◌&&◌};
+ghost use Rattle.std.specs.Prelude.{◌≡◌, T, length, IfOk, OnOk, ◌++◌, map, filter, ◌&&◌};
 ghost use Rattle.std.specs.Option.{option_copied};
 ghost use Rattle.std.specs.Ordering.{int_cmp, is_le};
 ghost use Rattle.std.specs.FinMap as map;
+ghost use Rattle.std.specs.FinMap.{is_sorted, from_sorted};
 ghost use Rattle.book_model.specs.Book.{written_row};
 ghost use Rattle.shell_model.specs.Cases.{rows_between};
 
@@ -52,6 +53,18 @@ impl KeptTable {
             columns,
             entry,
             rows: Vec::new(alloc),
+        }
+    }
+
+    /// A table with these rows, which stand in the order of their rowids.
+    pub(crate) fn of_rows(columns: ByteLists, entry: i64, rows: Vec<(i64, KeptRow)>) -> KeptTable
+        requires { T (is_sorted int_cmp rows.items) }
+        ensures { result ≡ record { columns = columns; entry = entry; rows = from_sorted rows.items } }
+    {
+        KeptTable {
+            columns,
+            entry,
+            rows,
         }
     }
 

@@ -2,3 +2,4 @@ pub mod Tests
 pub mod Rests
 pub mod Parts
 pub mod SessionLemmas
+pub mod Gives

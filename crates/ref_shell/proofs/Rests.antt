@@ -8,7 +8,7 @@ use Rattle.shell_lang.specs.declared.reply.ErrorWord.TheVariants as word
 use Rattle.shell_lang.specs.declared.reply.ScanEnd.TheVariants as last
 use Rattle.book_model.specs.Book.{Name, table_at, is_taken, has_row, with_table, without_table, with_row, without_row}
 use Rattle.shell_model.specs.State.{State, seen, reached, halted}
-use Rattle.shell_model.specs.Cases.{Pick, Case, due, may, changing, sized, row_reply, rows_reply, rows_between, tables_of}
+use Rattle.shell_model.specs.Cases.{Pick, Case, due, may, changing, sized, row_reply, rows_reply, rows_between, tables_listed}
 use Rattle.ref_shell.specs.Part.{put_values}
 
 abbrev pub get_rest : State → ℕ → Name → ℤ → List Case
@@ -25,7 +25,7 @@ abbrev pub count_rest : State → ℕ → Name → List Case
 count_rest s who name = due true (reply.Count (map.len (table_at (seen s who) name).rows)) (reached s who Shared) ∷ []
 
 abbrev pub tables_rest : State → ℕ → List Case
-tables_rest s who = due true (reply.TableLines (tables_of (seen s who))) (reached s who Shared) ∷ []
+tables_rest s who = due true (reply.TableLines (tables_listed (seen s who))) (reached s who Shared) ∷ []
 
 abbrev pub put_row : Pick → State → ℕ → Name → ℤ → List Value → List Case
 put_row pick s who name rowid values =

@@ -2,3 +2,4 @@ pub mod Shelf
 pub mod Machine
 pub mod Part
 pub mod Session
+pub mod Judge

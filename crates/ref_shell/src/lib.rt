@@ -2,11 +2,13 @@
 //! after it, over anything that keeps a book; and a whole run, from the bytes of its input to those of its text.
 #![tactic(auto)]
 
+mod judge;
 mod levels;
 mod machine;
 mod session;
 mod shelf;
 
+pub use judge::FreeReply;
 pub use machine::{Draft, Machine};
 pub use session::run;
 pub use shelf::Shelf;

@@ -50,7 +50,7 @@ impl<S: Shelf> Machine<S> {
     }
 
     /// The shelf that a connection sees.
-    fn seen(&self, who: Owner) -> &S
+    pub(crate) fn seen(&self, who: Owner) -> &S
         ensures { S.book result.now ≡ seen (state_of S.book self.now) who }
     {
         match &self.draft {
@@ -60,7 +60,7 @@ impl<S: Shelf> Machine<S> {
     }
 
     /// Whether a connection is inside a transaction.
-    fn is_inside(&self, who: Owner) -> bool
+    pub(crate) fn is_inside(&self, who: Owner) -> bool
         ensures { result ≡ is_inside (state_of S.book self.now) who }
     {
         self.inside[place_of(who)]
@@ -383,7 +383,7 @@ impl<S: Shelf> Machine<S> {
     }
 
     /// Whether a connection has a draft.
-    fn has_own(&self, who: Owner) -> bool
+    pub(crate) fn has_own(&self, who: Owner) -> bool
         ensures { result ≡ is_some (own (state_of S.book self.now) who) }
     {
         match &self.draft {
@@ -479,7 +479,7 @@ fn put_reply(there: bool) -> Reply
 }
 
 /// Whether any of the values is a text or a blob that passes 65,536 bytes.
-fn any_is_long(values: &[Value]) -> bool
+pub(crate) fn any_is_long(values: &[Value]) -> bool
     ensures { result ≡ list_any is_long values.now }
 {
     values.iter().any(|value| is_long(value))

@@ -3,7 +3,7 @@
 ghost use Rattle.std.specs.Prelude.{◌≡◌, ℕ, length, IfOk};
 ghost use Rattle.std.specs.FinMap as map;
 ghost use Rattle.book_model.specs.Book.{Book, is_plain, is_foreign, is_taken, table_at, has_row, with_table, without_table, with_row, without_row};
-ghost use Rattle.shell_model.specs.Cases.{row_reply, rows_reply, tables_of};
+ghost use Rattle.shell_model.specs.Cases.{row_reply, rows_reply, tables_listed};
 ghost use Rattle.shell_lang.specs.declared.reply.Reply.TheVariants as reply;
 ghost use Rattle.ref_shell.specs.Shelf.{Becomes};
 
@@ -47,7 +47,7 @@ pub trait Shelf: Drop {
 
     /// The reply that gives the tables.
     fn tables(&self) -> Result<Reply, AllocError>
-        ensures { IfOk result (λ said. said ≡ reply.TableLines (tables_of (book self.now))) };
+        ensures { IfOk result (λ said. said ≡ reply.TableLines (tables_listed (book self.now))) };
 
     fn counter(&self) -> u32
         ensures { result ≡ (book self.now).counter };

@@ -9,7 +9,7 @@ use Rattle.std.specs.FinMap.{FinMap, int_cmp-IsAntisymmetric}
 use Rattle.db_format.specs.declared.value.Value.{Value}
 use Rattle.book_model.specs.Book.{Name, Row, Table, Book, table_at, is_plain, is_foreign, is_taken, taken_by, has_row, next_of, next_entry, entry_row, with_table, without_table, with_row, without_row}
 use Rattle.shell_model.specs.State.{committed_book}
-use Rattle.shell_model.specs.Cases.{Pick, sized, tables_of}
+use Rattle.shell_model.specs.Cases.{Pick, sized, tables_listed}
 use Rattle.shell_laws.specs.Agree.{IsSameBook}
 use Rattle.shell_laws.proofs.MapLemmas.{shown_by, same_shown, same_keys, same_flat, insert_shown, remove_shown}
 use Rattle.std.specs.List.{list_any}
@@ -42,10 +42,10 @@ module _ (a b : Book) (same : IsSameBook a b) where
   pub same_has : (name : Name) (rowid : ℤ) → has_row b name rowid ≡ has_row a name rowid
   same_has name rowid = ap (λ (t : Table). map.contains_key t.rows rowid) (same_table name)
 
-  pub same_list : tables_of b ≡ tables_of a
+  pub same_list : tables_listed b ≡ tables_listed a
   same_list =
-      ap (λ (f : List Name). tables_of (record a { tables = b.tables; foreign = f })) same.foreign
-      ∙ ap (λ (t : FinMap (slice_cmp nat_cmp) Table). tables_of (record a { tables = t })) same.tables
+      ap (λ (f : List Name). tables_listed (record a { tables = b.tables; foreign = f })) same.foreign
+      ∙ ap (λ (t : FinMap (slice_cmp nat_cmp) Table). tables_listed (record a { tables = t })) same.tables
 
   pub table_with : (name : Name) (columns : List Name) (root root' : ℕ) → IsSameBook (with_table a name columns root) (with_table b name columns root')
   table_with name columns root root' = record {

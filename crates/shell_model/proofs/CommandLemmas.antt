@@ -86,7 +86,7 @@ fewest_fits s who book same =
     let e : length book.unnamed ≡ length (seen s who).unnamed = ap length same in
     record { fits = omega arith; keeps = omega arith; needed = omega (arith, some_need (sized (fewest s who) book)); bounded = omega arith }
 
-fewest_is_fair : (s : State) (who : ℕ) (asked : Command) → s.doubt ≡ None → IsFair (fewest s who) s who asked
+pub fewest_is_fair : (s : State) (who : ℕ) (asked : Command) → s.doubt ≡ None → IsFair (fewest s who) s who asked
 fewest_is_fair s who (command.Create table columns) certain = fewest_fits s who (with_table (seen s who) table.name columns 2) refl
 fewest_is_fair s who (command.Drop table) certain = fewest_fits s who (without_table (seen s who) table.name) refl
 fewest_is_fair s who (command.Put table rowid values) certain = fewest_fits s who (with_row (seen s who) table.name rowid values) refl

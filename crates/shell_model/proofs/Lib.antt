@@ -7,3 +7,5 @@ pub mod RuleLemmas
 pub mod SettledLemmas
 pub mod OutcomeLemmas
 pub mod StepLemmas
+pub mod PlanLemmas
+pub mod FreeLemmas

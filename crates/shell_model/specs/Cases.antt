@@ -1,22 +1,20 @@
 -- What a command may be answered, as one list of cases for each command, in the order in which they are taken.
-use Rattle.std.specs.Prelude.{◌≡◌, ◌⊎◌, ℕ, ℤ, ◌+◌, ◌/◌, ◌^◌, ◌==◌, ◌&&◌, nat_lt, nat_le, not, Bool, true, false, if◌then◌else◌, IsTrue, MatchBool, List, [], ◌∷◌, ◌++◌, length, map, take, filter, Option, Some, None, is_some}
+use Rattle.std.specs.Prelude.{◌≡◌, ◌⊎◌, ℕ, ℤ, ◌+◌, ◌/◌, ◌^◌, ◌==◌, ◌&&◌, nat_lt, nat_le, not, Bool, true, false, if◌then◌else◌, IsTrue, MatchBool, List, [], ◌∷◌, length, map, take, Option, Some, None, is_some}
 use Rattle.std.specs.List.{list_any}
-use Rattle.std.specs.Ordering.{nat_cmp, int_cmp, is_le}
-use Rattle.std.specs.Cmp.Lexicographic.{slice_cmp}
+use Rattle.std.specs.Ordering.{int_cmp}
 use Rattle.std.specs.FinMap as map
 use Rattle.std.specs.FinMap.{FinMap}
 use Rattle.vfs_model.specs.declared.level.Level.TheVariants.{Shared, Reserved, Exclusive}
 use Rattle.db_format.specs.declared.value.Value.{Value}
 use Rattle.db_format.specs.declared.value.Value.TheVariants.{Text, Blob}
-use Rattle.db_format.specs.declared.table_list.TableEntry.{TableEntry}
-use Rattle.db_format.specs.declared.table_list.TableEntry.TheVariants.{Plain, Foreign}
 use Rattle.shell_lang.specs.declared.command.Command.{Command}
 use Rattle.shell_lang.specs.declared.command.Command.TheVariants as command
 use Rattle.shell_lang.specs.declared.reply.Reply.{Reply}
 use Rattle.shell_lang.specs.declared.reply.Reply.TheVariants as reply
 use Rattle.shell_lang.specs.declared.reply.ErrorWord.TheVariants as word
 use Rattle.shell_lang.specs.declared.reply.ScanEnd.TheVariants as last
-use Rattle.book_model.specs.Book.{Name, Row, Book, table_at, is_plain, is_foreign, foreign_names, is_taken, with_table, without_table, with_row, without_row, has_row, use_of, need_of}
+use Rattle.book_model.specs.Book.{Name, Row, Book, table_at, is_plain, is_foreign, is_taken, with_table, without_table, with_row, without_row, has_row, use_of, need_of}
+pub use Rattle.book_reads.specs.Reads.{rows_between, tables_listed}
 use Rattle.shell_model.specs.State.{State, is_inside, own, seen, is_refused, reached, waiting, begun, ended, drafted, committed_book, committed, halted, opened}
 
 -- a case: a condition, the reply, and the state after it
@@ -108,20 +106,8 @@ is_long (Text bytes) = nat_lt 65536 (length bytes)
 is_long (Blob bytes) = nat_lt 65536 (length bytes)
 is_long _ = false
 
--- the rows between two rowids, both included, in rising order
-abbrev pub rows_between : ℤ → ℤ → FinMap int_cmp Row → List (ℤ × List Value)
-rows_between low high rows = map (λ row. (row.0, row.1.values)) (filter (λ row. is_le (int_cmp low row.0) && is_le (int_cmp row.0 high)) (map.entries rows))
-
 abbrev pub rows_reply : ℤ → ℤ → FinMap int_cmp Row → Reply
 rows_reply low high rows = reply.Rows (rows_between low high rows) (last.End (length (rows_between low high rows)))
-
--- the tables in the order of their names
-abbrev pub tables_of : Book → List TableEntry
-tables_of book =
-    let plain : List (Name × TableEntry) = map (λ table. (table.0, Plain (record { name = table.0; columns = table.1.columns }))) (map.entries book.tables) in
-    let foreign : List (Name × TableEntry) = map (λ name. (name, Foreign name)) (foreign_names book) in
-    let all : FinMap (slice_cmp nat_cmp) TableEntry = map.from_entries (plain ++ foreign) in
-    map.values all
 
 -- ---- the commands
 
@@ -162,7 +148,7 @@ cases_of pick s who (command.Count table) =
     asked s (reading s who (looking (reached s who Shared) book table.name (
     due true (reply.Count (map.len (table_at book table.name).rows)) (reached s who Shared) ∷ [])))
 cases_of pick s who command.Tables =
-    asked s (reading s who (due true (reply.TableLines (tables_of (seen s who))) (reached s who Shared) ∷ []))
+    asked s (reading s who (due true (reply.TableLines (tables_listed (seen s who))) (reached s who Shared) ∷ []))
 cases_of pick s who command.Begin =
     due s.stopped reply.Stopped s
     ∷ due (is_inside s who) (reply.Error word.InTxn) s

@@ -2,6 +2,8 @@
 //! laws; there is no code that does it.
 #![tactic(auto)]
 
+ghost use Rattle.shell_model.specs.Words.{OneWord};
+ghost use Rattle.shell_model.specs.Free.{FreeReplies, FreeStates};
 ghost use Rattle.shell_model.specs.Laws.{RepliesAreDetermined, ReferenceIsAllowed, PutsShow, GetsTell, OneDraft, DraftsAreHidden, OneReplyALine, DraftsStay, LaterGet, RefusedByRule, StaysSettled, StepsAreBlocks, StepsArePrintable};
 
 /// Replies other than the free ones are determined by the state.
@@ -67,4 +69,19 @@ pub fn steps_are_blocks()
 /// Each reply of a step can be written.
 pub fn steps_are_printable()
     ensures { StepsArePrintable }
+{}
+
+/// One word that is a database's name names it, with nothing else, and one that is none names nothing.
+pub fn one_word()
+    ensures { OneWord }
+{}
+
+/// Just where want of memory and a fault of the device may be answered.
+pub fn free_replies()
+    ensures { FreeReplies }
+{}
+
+/// What such replies leave: want of memory changes nothing, and the others stop the session.
+pub fn free_states()
+    ensures { FreeStates }
 {}

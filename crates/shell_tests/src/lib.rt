@@ -2,4 +2,8 @@
 #![tactic(auto)]
 
 #[cfg(test)]
+mod judged;
+#[cfg(test)]
 mod runs;
+#[cfg(test)]
+mod starts;

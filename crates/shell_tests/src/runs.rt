@@ -1,8 +1,7 @@
 //! Whole runs over a book in memory.
 
-use byte_base::{ByteLists, Bytes};
 use ref_book::MapShelf;
-use ref_shell::{Shelf, run};
+use ref_shell::run;
 use std::alloc::{AllocError, Global};
 use std::test::Fail;
 
@@ -67,13 +66,6 @@ const FROM_NOTHING: [Case; 10] = [
     ),
 ];
 
-/// A run over a book at the end of its counter, with a table `t` of the column `a`.
-const WORN: Case = (
-    "a worn database",
-    b"get t 1\nput t 1 i:1\nbegin\nput t 1 i:1\ncommit\nrollback\ncount t\n",
-    b"open 4294967295\nnone\nworn\nok\nnew\nworn\nok\ncount 0\n",
-);
-
 #[test]
 fn runs_from_nothing_give_their_text(rt: HostRuntime) -> Result<(), Fail> {
     let alloc = rt.alloc();
@@ -81,25 +73,6 @@ fn runs_from_nothing_give_their_text(rt: HostRuntime) -> Result<(), Fail> {
         let given = run(alloc, MapShelf::new(alloc, 512, 512), input)?;
         assert!(rt; given.as_slice() == text, "{name}");
     }
-    Ok(())
-}
-
-/// The book of the worn run.
-fn worn_book(alloc: Global) -> Result<MapShelf, AllocError> {
-    let name = Bytes::copy_of(alloc, b"t")?;
-    let mut columns = ByteLists::from_vec(Vec::new(alloc));
-    columns.push(Bytes::copy_of(alloc, b"a")?)?;
-    let mut shelf = MapShelf::new(alloc, 512, 512).with_table(&name, columns)?;
-    shelf.set_counter(u32::MAX);
-    Ok(shelf)
-}
-
-#[test]
-fn a_worn_database_is_read_and_not_changed(rt: HostRuntime) -> Result<(), Fail> {
-    let alloc = rt.alloc();
-    let (name, input, text) = WORN;
-    let given = run(alloc, worn_book(alloc)?, input)?;
-    assert!(rt; given.as_slice() == text, "{name}");
     Ok(())
 }
 

@@ -10,6 +10,8 @@ mod local_sizes;
 #[cfg(test)]
 mod pages;
 #[cfg(test)]
+mod plain;
+#[cfg(test)]
 mod records;
 #[cfg(test)]
 mod table_texts;

@@ -1,4 +1,4 @@
-//! A file of two pages, and the plan of a journal of both.
+//! A file of two pages before and after its first row, and the plan of a journal of both.
 
 ghost use Rattle.std.specs.Prelude.{◌≡◌, ℕ, [], ◌∷◌, length, take, drop, IfOk, None};
 ghost use Rattle.journal_format.specs.Journal.{IsPlan};
@@ -33,6 +33,14 @@ const BEFORE: [Patch; 9] = [
     (512, b"\x0d\x00\x00\x00\x00\x02\x00\x00"),
 ];
 
+/// What the first row, of the text `a`, changes in it.
+const ROW: [Patch; 4] = [
+    (24, b"\x00\x00\x00\x02"),
+    (92, b"\x00\x00\x00\x02"),
+    (512, b"\x0d\x00\x00\x00\x01\x01\xfb\x00\x01\xfb"),
+    (512 + 507, b"\x03\x01\x02\x0f\x61"),
+];
+
 /// Lays bytes over others, where they have room.
 pub fn lay(bytes: &mut [u8], patches: &[Patch])
     ensures { length bytes.new ≡ length bytes.old }
@@ -44,10 +52,17 @@ pub fn lay(bytes: &mut [u8], patches: &[Patch])
     }
 }
 
-/// The file.
+/// The file without the row.
 pub fn before(alloc: Global) -> Result<Vec<u8>, AllocError> {
     let mut file = vec![in alloc; 0; 2 * PAGE]?;
     lay(&mut file, &BEFORE);
+    Ok(file)
+}
+
+/// The file with the row.
+pub fn after(alloc: Global) -> Result<Vec<u8>, AllocError> {
+    let mut file = before(alloc)?;
+    lay(&mut file, &ROW);
     Ok(file)
 }
 
@@ -86,6 +101,17 @@ pub fn plan_of(alloc: Global, file: &[u8]) -> Result<JournalPlan, AllocError>
         originals: both_pages(alloc, file)?,
         super_name: None,
     })
+}
+
+/// The name of the database.
+pub fn main_name() -> Result<Name, Fail>
+    ensures { IfOk result (λ name. kind_of name ≡ Kind.Main) }
+{
+    let name = Name::new(b"main").ok_or("a name")?;
+    match name.kind() {
+        Kind::Main => Ok(name),
+        _ => Err("a database".into()),
+    }
 }
 
 /// The name of its journal.

@@ -1,4 +1,4 @@
-mod MoveLemmas
+pub mod MoveLemmas
 mod CellLemmas
 mod PutLemmas
 mod RootLemmas

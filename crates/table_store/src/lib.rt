@@ -1,4 +1,4 @@
-//! Tables by name, in the pages of a database in SQLite's format: their rows found, scanned and counted.
+//! Tables by name, in the pages of a database in SQLite's format: their rows found, scanned, counted, put and taken out.
 //!
 //! Only plain tables are read. All others, as SQL can make them, are foreign here. Names are compared without regard to the case of ASCII
 //! letters. Each call first goes over the whole schema.
@@ -10,8 +10,10 @@ mod fault;
 mod fill;
 mod reads;
 mod schema;
+mod writes;
 
 pub use db_format::{Create, PlainTable, Record, SpaceFault, TableEntry, TableList, Value};
 pub use fault::TableFault;
 pub use page_pool::PageSpace;
 pub use reads::{count, get, scan_next};
+pub use writes::{put, remove};

@@ -1,0 +1,49 @@
+use Rattle.std.proofs.Common.{◌≡◌, ◌∙◌, refl, sym, ap, List, map, take, arith}
+use Rattle.std.proofs.lemmas.List.{take-map}
+use Rattle.page_draft.specs.Slots.{read_of, marked_of, now_of}
+use Rattle.page_draft.specs.declared.slot.Slot.{Slot}
+use Rattle.page_draft.specs.declared.draft.PageDraft.{PageDraft}
+use Rattle.page_draft.specs.Draft.{read_list, marked_list}
+use Rattle.page_draft.specs.Slots.{changed_slot}
+use Rattle.page_draft.specs.declared.slot.Change.TheVariants.{Undo}
+use Rattle.page_draft.proofs.ChangeLemmas.{undoes-read, undoes-marked, undoes-now, long-as, first-shown}
+use Rattle.page_draft.proofs.draft.PageDraft.undo.Goals as goal
+
+-- the slots up to the mark, changed
+reads_as : (d : PageDraft) (slots : List Slot) → slots ≡ map (changed_slot Undo) (take d.marked_len d.slots.items) → take d.read_len (map (read_of d.page_size) slots) ≡ read_list d
+reads_as d slots is =
+    ap (λ slots. take d.read_len (map (read_of d.page_size) slots)) is ∙ ap (take d.read_len) (undoes-read d.page_size (take d.marked_len d.slots.items))
+    ∙ first-shown (read_of d.page_size) d.read_len d.marked_len d.slots.items d.read_within
+
+marked_as : (d : PageDraft) (slots : List Slot) → slots ≡ map (changed_slot Undo) (take d.marked_len d.slots.items) → take d.marked_len (map (marked_of d.page_size) slots) ≡ marked_list d
+marked_as d slots is =
+    ap (λ slots. take d.marked_len (map (marked_of d.page_size) slots)) is ∙ ap (take d.marked_len) (undoes-marked d.page_size (take d.marked_len d.slots.items))
+    ∙ first-shown (marked_of d.page_size) d.marked_len d.marked_len d.slots.items (omega arith)
+
+now_as : (d : PageDraft) (slots : List Slot) → slots ≡ map (changed_slot Undo) (take d.marked_len d.slots.items) → map (now_of d.page_size) slots ≡ marked_list d
+now_as d slots is =
+    ap (map (now_of d.page_size)) is ∙ undoes-now d.page_size (take d.marked_len d.slots.items) ∙ sym (take-map (marked_of d.page_size) d.marked_len d.slots.items)
+
+pub invariant_of-self-clause-read_long : goal.invariant_of-self-clause-read_long
+invariant_of-self-clause-read_long c =
+    long-as (reads_as c.args.self.now c.change_all.new.slots.items (c.change_all.ensures ∙ ap (map (changed_slot Undo)) c.truncate.ensures.items)) c.args.self.now.read_long
+
+pub invariant_of-self-clause-marked_long : goal.invariant_of-self-clause-marked_long
+invariant_of-self-clause-marked_long c =
+    long-as (marked_as c.args.self.now c.change_all.new.slots.items (c.change_all.ensures ∙ ap (map (changed_slot Undo)) c.truncate.ensures.items)) c.args.self.now.marked_long
+
+pub invariant_of-self-clause-now_long : goal.invariant_of-self-clause-now_long
+invariant_of-self-clause-now_long c =
+    long-as (now_as c.args.self.now c.change_all.new.slots.items (c.change_all.ensures ∙ ap (map (changed_slot Undo)) c.truncate.ensures.items)) c.args.self.now.marked_long
+
+pub returns-clause-keeps : goal.returns-clause-keeps
+returns-clause-keeps c =
+    let is = c.change_all.ensures ∙ ap (map (changed_slot Undo)) c.truncate.ensures.items in
+    record {
+      reads = record { sizes = record { sized = refl; used = refl }; read_stays = reads_as c.args.self.now c.change_all.new.slots.items is };
+      marked_stays = marked_as c.args.self.now c.change_all.new.slots.items is;
+      mark_stays = refl;
+    }
+
+pub returns-clause-now : goal.returns-clause-now
+returns-clause-now c = now_as c.args.self.now c.change_all.new.slots.items (c.change_all.ensures ∙ ap (map (changed_slot Undo)) c.truncate.ensures.items)

@@ -1,9 +1,9 @@
 -- The pages of a draft: as they were read, as they were at the mark, and as they are now; and what calls leave of them.
-use Rattle.std.specs.Prelude.{◌≡◌, ℕ, ◌+◌, ◌*◌, ◌<◌, nat_eq, if◌then◌else◌, false, List, map, take, length, Some}
-use Rattle.db_format.specs.Header.{greatest_length}
+use Rattle.std.specs.Prelude.{◌≡◌, ℕ, ◌+◌, ◌*◌, ◌<◌, ◌≤◌, nat_eq, if◌then◌else◌, false, List, map, take, length, Some}
+use Rattle.db_format.specs.Header.{greatest_length, IsPageSize}
 use Rattle.db_format.specs.declared.fault.SpaceFault.{SpaceFault}
 use Rattle.db_format.specs.declared.fault.SpaceFault.TheVariants.{Failed, Memory, Bad, Corrupt, Large}
-use Rattle.page_list.specs.Pages.{Pages}
+use Rattle.page_list.specs.Pages.{Pages, AreSized}
 use Rattle.page_draft.specs.Slots.{Shown, shown, read_of, marked_of, now_of, pages_of}
 use Rattle.page_draft.specs.declared.slot.ReadPage.{ReadPage}
 use Rattle.page_draft.specs.declared.draft.PageDraft.{PageDraft}
@@ -26,6 +26,16 @@ marked_pages d = pages_of d.usable (marked_list d)
 
 abbrev pub now_pages : PageDraft → Pages
 now_pages d = pages_of d.usable (now_list d)
+
+-- a page size of SQLite's, a usable size whose rest fits the byte that says it, no more pages than the greatest database has, and as many
+-- bytes on each page as a page has
+pub record HasSizes (page_size : ℕ) (pages : Pages) : Type 0 where
+  pub size_of_page : IsPageSize page_size
+  pub least : 480 ≤ pages.usable
+  pub most : pages.usable ≤ page_size
+  pub spare : page_size ≤ pages.usable + 255
+  pub few : pages.size * page_size ≤ greatest_length
+  pub each : AreSized page_size pages
 
 -- nothing was put or added: all three are the same
 pub record IsClean (d : PageDraft) : Type 0 where

@@ -39,10 +39,10 @@ pub struct PageDraft {
 
 impl PageDraft {
     ghost use Rattle.std.specs.Prelude.{◌-◌, ◌<◌, true, [], ◌∷◌, ◌++◌, OnOk, OnErr};
-    ghost use Rattle.page_list.specs.Pages.{HasPage, IsGood, AreSized};
+    ghost use Rattle.page_list.specs.Pages.{HasPage, IsGood};
     ghost use Rattle.page_list.specs.Edits.{with_page, grown};
     ghost use Rattle.page_draft.specs.Slots.{shown};
-    ghost use Rattle.page_draft.specs.Draft.{read_list, marked_list, now_list, read_pages, now_pages, IsClean, IsLong, with_last, KeepsSizes, KeepsRead, KeepsMark, Stays, IsBad, PageFails, PassesGreatest, GrowFails};
+    ghost use Rattle.page_draft.specs.Draft.{read_list, marked_list, now_list, read_pages, now_pages, HasSizes, IsClean, IsLong, with_last, KeepsSizes, KeepsRead, KeepsMark, Stays, IsBad, PageFails, PassesGreatest, GrowFails};
 
     /// No pages, of this size in bytes, with so many bytes reserved at the end of each. It takes no memory.
     pub fn new(alloc: Global, page_size: u32, reserved: u8) -> PageDraft
@@ -67,18 +67,14 @@ impl PageDraft {
 
     /// The size of a page in bytes.
     pub fn page_size(&self) -> u32
-        ensures value { result ≡ self.now.page_size }
-        ensures size { IsPageSize result }
+        ensures { result ≡ self.now.page_size }
     {
         self.page_size
     }
 
     /// How many bytes of a page are used.
     pub fn usable(&self) -> u32
-        ensures value { result ≡ (now_pages self.now).usable }
-        ensures least { 480 ≤ result }
-        ensures most { result ≤ self.now.page_size }
-        ensures spare { self.now.page_size ≤ result + 255 }
+        ensures { result ≡ self.now.usable }
     {
         self.usable
     }
@@ -86,8 +82,7 @@ impl PageDraft {
     /// How many pages there are now.
     pub fn size(&self) -> u32
         ensures value { result ≡ (now_pages self.now).size }
-        ensures few { result * self.now.page_size ≤ greatest_length }
-        ensures sized { AreSized self.now.page_size (now_pages self.now) }
+        ensures sizes { HasSizes self.now.page_size (now_pages self.now) }
     {
         self.slots.len() as u32
     }
@@ -95,8 +90,7 @@ impl PageDraft {
     /// How many pages were read.
     pub fn read_size(&self) -> u32
         ensures value { result ≡ (read_pages self.now).size }
-        ensures few { result * self.now.page_size ≤ greatest_length }
-        ensures sized { AreSized self.now.page_size (read_pages self.now) }
+        ensures sizes { HasSizes self.now.page_size (read_pages self.now) }
     {
         self.read_len as u32
     }

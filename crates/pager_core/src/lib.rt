@@ -1,0 +1,12 @@
+//! The pages of a database that is open over a stack, as its connections see them.
+#![tactic(auto)]
+
+mod fault;
+mod locks;
+mod pager;
+mod space;
+
+pub use fault::PagerFault;
+pub use page_pool::PageSpace;
+pub use pager::Pager;
+pub use space::Space;

@@ -1,0 +1,5 @@
+use Rattle.std.proofs.Common.{ℕ, ◌≤◌, length}
+use Rattle.host_vfs.proofs.folder.read_on.Given as goal
+
+abbrev pub invariant-reads : goal.invariant-reads
+invariant-reads g l = l.count ≤ length l.buf

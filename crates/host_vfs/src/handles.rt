@@ -41,11 +41,7 @@ pub fn make_room(handles: &mut Vec<Option<Handle>>) -> Result<(), AllocError>
 }
 
 /// Gives the least number that is not in use to a name.
-pub fn take(
-    handles: &mut Vec<Option<Handle>>,
-    name: &Name,
-    path: String,
-) -> Result<Fid, AllocError>
+pub fn take(handles: &mut Vec<Option<Handle>>, name: &Name, path: String) -> Result<Fid, AllocError>
     ensures ok { IfOk result (λ fid. TakesHandle handles.old.items handles.new.items name.now fid.0) }
     ensures err { OnErr result (handles.new.items ≡ handles.old.items) }
 {

@@ -292,9 +292,7 @@ fn calls_on(
     seen.push(done(host.sync(file)))?;
     seen.push(done(host.write(file, 4, b"XYZ")))?;
     let mut buf = [7; ROOM];
-    seen.push(number(
-        host.read(file, 2, &mut buf).map(|count| count as u64),
-    ))?;
+    seen.push(number(host.read(file, 2, &mut buf).map(|count| count as u64)))?;
     seen.push(Some(u64::from_be_bytes(buf)))?;
     seen.push(done(host.cut(file, 3)))?;
     seen.push(done(host.cut(file, 3)))?;

@@ -1,4 +1,4 @@
-use Rattle.std.proofs.Common.{ℕ, ◌≤◌, length}
+use Rattle.std.proofs.Common.{◌≤◌, length}
 use Rattle.host_vfs.proofs.folder.read_on.Given as goal
 
 abbrev pub invariant-reads : goal.invariant-reads

@@ -2,7 +2,7 @@
 use Rattle.std.proofs.Common.{◌≡◌, ◌↔◌, ℕ, Bool, IsTrue, sym, subst, ◌∙◌}
 use Rattle.shell_lang.specs.declared.command.Command.{Command}
 use Rattle.shell_model.specs.State.{State}
-use Rattle.shell_model.specs.Free.{SomeStep}
+use Rattle.shell_laws.specs.Free.{SomeStep}
 use Rattle.ref_shell.specs.Judge.{reply_of}
 use Rattle.ref_shell.specs.declared.judge.FreeReply.{FreeReply}
 

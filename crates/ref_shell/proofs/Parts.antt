@@ -6,8 +6,8 @@ use Rattle.shell_lang.specs.declared.reply.Reply.TheVariants as reply
 use Rattle.shell_lang.specs.declared.command.Command.{Command}
 use Rattle.shell_lang.specs.declared.reply.ErrorWord.TheVariants as word
 use Rattle.std.proofs.lemmas.Bool.{and_left}
-use Rattle.shell_model.proofs.BookLemmas.{plain_is_not_foreign}
-use Rattle.shell_model.proofs.CommandLemmas.{any_choice, memory_step}
+use Rattle.shell_laws.proofs.BookLemmas.{plain_is_not_foreign}
+use Rattle.shell_laws.proofs.CommandLemmas.{any_choice, memory_step}
 use Rattle.std.specs.Prelude.{Result, Ok, Err, IfOk, OnErr}
 use Rattle.std.specs.declared.alloc.AllocError.{AllocError}
 use Rattle.ref_shell.specs.Machine.{state_of}

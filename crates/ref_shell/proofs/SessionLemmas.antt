@@ -11,7 +11,7 @@ use Rattle.shell_lang.specs.Reply.{ended, text_of}
 use Rattle.book_model.specs.Book.{Book}
 use Rattle.shell_model.specs.State.{State, closed, opened}
 use Rattle.shell_model.specs.Run.{HasNoFeed, last_line, Line, said, IsLine, Answers, RunFrom, RunsTo}
-use Rattle.shell_model.proofs.CommandLemmas.{reopen_step}
+use Rattle.shell_laws.proofs.CommandLemmas.{reopen_step}
 use Rattle.ref_shell.specs.Session.{LineRun, RunSoFar, IsFedLine}
 
 -- a run goes on with a line more

@@ -2,7 +2,7 @@
 
 ghost use Rattle.std.specs.Prelude.{◌≡◌, ◌↔◌, IsTrue};
 ghost use Rattle.shell_model.specs.Step.{takes_memory};
-ghost use Rattle.shell_model.specs.Free.{SomeStep, keeps_draft, may_want, may_commit, may_fail, may_write, finds, accepts, may_change, may_break_off};
+ghost use Rattle.shell_laws.specs.Free.{SomeStep, keeps_draft, may_want, may_commit, may_fail, may_write, finds, accepts, may_change, may_break_off};
 ghost use Rattle.ref_shell.specs.Machine.{state_of};
 ghost use Rattle.ref_shell.specs.Judge.{reply_of};
 
@@ -12,7 +12,7 @@ use crate::shelf::Shelf;
 use byte_base::Bytes;
 use db_format::Record;
 use shell_lang::Command;
-use shell_model::free_replies;
+use shell_laws::free_replies;
 use vfs_model::{Level, Owner};
 
 /// A reply that may come or not, and that tells no number.

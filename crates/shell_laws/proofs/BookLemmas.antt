@@ -1,89 +1,61 @@
--- Books of the same tables answer the same, and stay such books when the same is done to both.
-use Rattle.std.proofs.Common.{◌≡◌, ℕ, ℤ, ◌+◌, List, reverse, refl, ap, ◌∙◌}
-use Rattle.std.specs.Prelude.{option_map, is_some}
-use Rattle.std.specs.Ordering.{nat_cmp, int_cmp}
-use Rattle.std.specs.Cmp.{int_cmp_total}
+-- Books: a plain table is not foreign, and a row that was put is there.
+use Rattle.std.proofs.Common.{◌≡◌, ℤ, pos, true, false, cond, ◌||◌, inl, inr, List, [], ◌∷◌, filter, Option, Some, refl, ap, sym, ◌∙◌, not}
+use Rattle.std.specs.Prelude.{is_some, unwrap_or}
+use Rattle.std.specs.List.{list_any}
+use Rattle.std.specs.Str.{str_eq_ignore_ascii_case, str_to_ascii_lowercase}
+use Rattle.std.specs.Ordering.{nat_cmp, is_eq}
+use Rattle.std.specs.Cmp.{IsTotalOrder, int_cmp_total}
 use Rattle.std.specs.Cmp.Lexicographic.{slice_cmp}
 use Rattle.std.specs.FinMap as map
-use Rattle.std.specs.FinMap.{FinMap, int_cmp-IsAntisymmetric}
+use Rattle.std.specs.FinMap.{FinMap, get-insert, contains_key-keys}
+use Rattle.std.proofs.lemmas.Bool.{cases_Bool, or_left, or_right}
+use Rattle.std.proofs.lemmas.Slice.Eq.{bytes_eq-Decides}
+use Rattle.std.proofs.lemmas.Map.Text.{is_eq-slice_cmp}
+use Rattle.std.proofs.lemmas.Cmp.{nat_list_cmp_total, eq_by_cmp_equiv}
 use Rattle.db_format.specs.declared.value.Value.{Value}
-use Rattle.book_model.specs.Book.{Name, Row, Table, Book, table_at, is_plain, is_foreign, is_taken, taken_by, has_row, next_of, next_entry, entry_row, with_table, without_table, with_row, without_row}
-use Rattle.shell_model.specs.State.{committed_book}
-use Rattle.shell_model.specs.Cases.{Pick, sized, tables_listed}
-use Rattle.shell_laws.specs.Agree.{IsSameBook}
-use Rattle.shell_laws.proofs.MapLemmas.{shown_by, same_shown, same_keys, same_flat, insert_shown, remove_shown}
-use Rattle.std.specs.List.{list_any}
-use Rattle.std.specs.Str.{str_eq_ignore_ascii_case}
+use Rattle.book_model.specs.Book.{Book, Name, Table, table_at, is_plain, is_foreign, written_row, with_row}
+use Rattle.shell_model.specs.Cases.{Pick, sized}
+use Rattle.shell_laws.specs.Laws.{HasRow}
+use Rattle.shell_laws.proofs.CaseLemmas.{never}
 
-abbrev names : Row → List Name
-names row = taken_by row.values
+-- what was inserted is found
+get-insert_same : {K X : Type 0} {R : K → K → _} (o : IsTotalOrder R) (m : FinMap R X) (k : K) (v : X) → map.get (map.insert m k v) k ≡ Some v
+get-insert_same o m k v = get-insert o m k v k ∙ ap (λ b. cond b (Some v) (map.get m k)) ((eq_by_cmp_equiv o).refl k)
 
-module _ (a b : Book) (same : IsSameBook a b) where
-  shown : shown_by names (map.entries b.schema) ≡ shown_by names (map.entries a.schema)
-  shown = same_shown int_cmp names int_cmp_total int_cmp-IsAntisymmetric a.schema b.schema same.names
+-- a book after a put has the row, whichever pages it has
+pub has_put : (pick : Pick) (book : Book) (name : Name) (rowid : ℤ) (values : List Value) → HasRow (sized pick (with_row book name rowid values)) name rowid values
+has_put pick book name rowid values =
+    let table : Table = record (table_at book name) { rows = map.insert (table_at book name).rows rowid (written_row values) } in
+    let there : map.get (map.insert book.tables name table) name ≡ Some table = get-insert_same nat_list_cmp_total book.tables name table in
+    record {
+      plain = ap is_some there;
+      row = ap (λ (o : Option Table). map.get (unwrap_or o (record { columns = []; entry = pos 0; rows = map.empty })).rows rowid) there
+          ∙ get-insert_same int_cmp_total (table_at book name).rows rowid (written_row values);
+    }
 
-  pub same_taken : (name : Name) → is_taken b name ≡ is_taken a name
-  same_taken name = ap (list_any (str_eq_ignore_ascii_case name)) (same_flat names (map.entries a.schema) (map.entries b.schema) shown)
+-- a name among others is found by one that is the same in letters of either case
+found_too : (name other : Name) (names : List Name) → str_eq_ignore_ascii_case name other ≡ true → list_any (λ n. is_eq (slice_cmp nat_cmp name n)) names ≡ true → list_any (str_eq_ignore_ascii_case other) names ≡ true
+found_too name other [] same found = absurd (cc)
+found_too name other (n ∷ names) same found = elim (cases_Bool (is_eq (slice_cmp nat_cmp name n))) [
+  | inl is ↦
+      let here : name ≡ n = (bytes_eq-Decides name n).0 (sym (is_eq-slice_cmp name n) ∙ is) in
+      let lower : str_to_ascii_lowercase name ≡ str_to_ascii_lowercase other = (bytes_eq-Decides (str_to_ascii_lowercase name) (str_to_ascii_lowercase other)).0 same in
+      or_left _ _ ((bytes_eq-Decides (str_to_ascii_lowercase other) (str_to_ascii_lowercase n)).1 (sym lower ∙ ap str_to_ascii_lowercase here))
+  | inr apart ↦ or_right _ _ (found_too name other names same (sym (ap (λ b. b || list_any (λ m. is_eq (slice_cmp nat_cmp name m)) names) apart) ∙ found))
+]
 
-  same_entry : next_entry b ≡ next_entry a
-  same_entry = ap (λ (l : List ℤ). next_of (reverse l)) (same_keys names (map.entries a.schema) (map.entries b.schema) shown)
+-- names that are the same as one of the plain ones are left out
+left_out : (name : Name) (names plain : List Name) → list_any (λ n. is_eq (slice_cmp nat_cmp name n)) plain ≡ true →
+    list_any (str_eq_ignore_ascii_case name) (filter (λ n. not (list_any (str_eq_ignore_ascii_case n) plain)) names) ≡ false
+left_out name [] plain found = refl
+left_out name (other ∷ names) plain found = elim (cases_Bool (list_any (str_eq_ignore_ascii_case other) plain)) [
+  | inl is ↦ rw is (left_out name names plain found)
+  | inr out ↦ rw out (elim (cases_Bool (str_eq_ignore_ascii_case name other)) [
+    | inl same ↦ never (found_too name other plain same found) out
+    | inr apart ↦ rw apart (left_out name names plain found)
+  ])
+]
 
-  pub same_table : (name : Name) → table_at b name ≡ table_at a name
-  same_table name = ap (λ (t : FinMap (slice_cmp nat_cmp) Table). table_at (record a { tables = t }) name) same.tables
-
-  pub same_plain : (name : Name) → is_plain b name ≡ is_plain a name
-  same_plain name = ap (λ (t : FinMap (slice_cmp nat_cmp) Table). is_some (map.get t name)) same.tables
-
-  pub same_foreign : (name : Name) → is_foreign b name ≡ is_foreign a name
-  same_foreign name =
-      ap (λ (f : List Name). is_foreign (record a { tables = b.tables; foreign = f }) name) same.foreign
-      ∙ ap (λ (t : FinMap (slice_cmp nat_cmp) Table). is_foreign (record a { tables = t }) name) same.tables
-
-  pub same_has : (name : Name) (rowid : ℤ) → has_row b name rowid ≡ has_row a name rowid
-  same_has name rowid = ap (λ (t : Table). map.contains_key t.rows rowid) (same_table name)
-
-  pub same_list : tables_listed b ≡ tables_listed a
-  same_list =
-      ap (λ (f : List Name). tables_listed (record a { tables = b.tables; foreign = f })) same.foreign
-      ∙ ap (λ (t : FinMap (slice_cmp nat_cmp) Table). tables_listed (record a { tables = t })) same.tables
-
-  pub table_with : (name : Name) (columns : List Name) (root root' : ℕ) → IsSameBook (with_table a name columns root) (with_table b name columns root')
-  table_with name columns root root' = record {
-    tables = ap (λ (t : FinMap (slice_cmp nat_cmp) Table). map.insert t name (record { columns = columns; entry = next_entry b; rows = map.empty })) same.tables
-        ∙ ap (λ (z : ℤ). map.insert a.tables name (record { columns = columns; entry = z; rows = map.empty })) same_entry;
-    foreign = same.foreign;
-    names = λ q. ap (λ (z : ℤ). option_map names (map.get (map.insert b.schema z (entry_row name columns root')) q)) same_entry
-        ∙ insert_shown int_cmp_total names a.schema b.schema (next_entry a) (entry_row name columns root) (entry_row name columns root') q refl (same.names q);
-    counter = same.counter;
-  }
-
-  pub table_without : (name : Name) → IsSameBook (without_table a name) (without_table b name)
-  table_without name = record {
-    tables = ap (λ (t : FinMap (slice_cmp nat_cmp) Table). map.remove t name) same.tables;
-    foreign = same.foreign;
-    names = λ q. ap (λ (t : Table). option_map names (map.get (map.remove b.schema t.entry) q)) (same_table name)
-        ∙ remove_shown int_cmp_total names a.schema b.schema (table_at a name).entry q (same.names q);
-    counter = same.counter;
-  }
-
-  pub row_with : (name : Name) (rowid : ℤ) (values : List Value) → IsSameBook (with_row a name rowid values) (with_row b name rowid values)
-  row_with name rowid values = record {
-    tables = ap (λ (t : FinMap (slice_cmp nat_cmp) Table). (with_row (record a { tables = t }) name rowid values).tables) same.tables;
-    foreign = same.foreign;
-    names = same.names;
-    counter = same.counter;
-  }
-
-  pub row_without : (name : Name) (rowid : ℤ) → IsSameBook (without_row a name rowid) (without_row b name rowid)
-  row_without name rowid = record {
-    tables = ap (λ (t : FinMap (slice_cmp nat_cmp) Table). (without_row (record a { tables = t }) name rowid).tables) same.tables;
-    foreign = same.foreign;
-    names = same.names;
-    counter = same.counter;
-  }
-
-  pub size_with : (p q : Pick) → IsSameBook (sized p a) (sized q b)
-  size_with p q = record { tables = same.tables; foreign = same.foreign; names = same.names; counter = same.counter }
-
-pub commit_with : (k l a b : Book) → IsSameBook k l → IsSameBook a b → IsSameBook (committed_book k a) (committed_book l b)
-commit_with k l a b kept same = record { tables = same.tables; foreign = same.foreign; names = same.names; counter = ap (λ n. n + 1) kept.counter }
+-- a plain table is not foreign
+pub plain_is_not_foreign : (book : Book) (name : Name) → is_plain book name ≡ true → is_foreign book name ≡ false
+plain_is_not_foreign book name plain = left_out name book.foreign (map.keys book.tables) (sym (contains_key-keys book.tables name) ∙ plain)

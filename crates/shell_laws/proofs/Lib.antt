@@ -1,5 +1,14 @@
-pub mod MapLemmas
-pub mod BookLemmas
 pub mod CaseLemmas
+pub mod CommandLemmas
+pub mod BookLemmas
+pub mod RowLemmas
+pub mod DraftLemmas
+pub mod SettledLemmas
+pub mod OutcomeLemmas
+pub mod StepLemmas
+pub mod FreeLemmas
+pub mod MapLemmas
+pub mod SameBookLemmas
+pub mod AgreeLemmas
 pub mod RunLemmas
 pub mod TextLemmas

@@ -14,8 +14,8 @@ use Rattle.shell_model.specs.Cases.{Pick, cases_of, row_reply, rows_reply}
 use Rattle.shell_model.specs.Step.{Step, IsFair, is_free}
 use Rattle.shell_model.specs.Run.{Line, said, bad, Answers, RunFrom, is_connection}
 use Rattle.shell_laws.specs.Agree.{IsSameBook, NoneFree, RunsAgree}
-use Rattle.shell_laws.proofs.BookLemmas.{same_taken, same_table, same_has, same_list, table_with, table_without, row_with, row_without, size_with}
-use Rattle.shell_laws.proofs.CaseLemmas.{IsAlike, Agree, agree, at_end, is_due, may_be, same_own, same_seen, same_inside, reached_same, waiting_same, begun_same, ended_same, opened_same, asked_same, reading_same, writing_same, committing_same, changing_same, looking_same}
+use Rattle.shell_laws.proofs.SameBookLemmas.{same_taken, same_table, same_has, same_list, table_with, table_without, row_with, row_without, size_with}
+use Rattle.shell_laws.proofs.AgreeLemmas.{IsAlike, Agree, agree, at_end, is_due, may_be, same_own, same_seen, same_inside, reached_same, waiting_same, begun_same, ended_same, opened_same, asked_same, reading_same, writing_same, committing_same, changing_same, looking_same}
 
 only_kept : (doubt : Option Doubt) (kept found : Book) → doubt ≡ None → IsCandidate doubt kept found → found ≡ kept
 only_kept None kept found certain is = is

@@ -1,11 +1,1 @@
-pub mod CaseLemmas
-pub mod CommandLemmas
-pub mod BookLemmas
-pub mod RowLemmas
-pub mod DraftLemmas
 pub mod RuleLemmas
-pub mod SettledLemmas
-pub mod OutcomeLemmas
-pub mod StepLemmas
-pub mod PlanLemmas
-pub mod FreeLemmas

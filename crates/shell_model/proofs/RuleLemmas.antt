@@ -11,7 +11,10 @@ use Rattle.vfs_model.specs.declared.level.Level.{Level}
 use Rattle.vfs_model.specs.declared.level.Level.TheVariants.{Free, Shared, Reserved, Pending, Exclusive}
 use Rattle.vfs_model.specs.Lock.{IsOwner, rank, level_at, KeepsOut, InTheWay, IsHolder, Refuses, after_refusal}
 use Rattle.shell_model.specs.State.{keeps_out, owners, is_refused}
-use Rattle.shell_model.proofs.CaseLemmas.{never}
+
+-- what is true is not false
+never : {A : Type 0} {b : Bool} → b ≡ true → b ≡ false → A
+never is not = absurd (let e : true ≡ false = sym is ∙ not in cc)
 
 keeps_out-Decides : (asked other : Level) → Decides (keeps_out asked other) (KeepsOut asked other)
 keeps_out-Decides Free other = (λ e. absurd (cc), λ out. absurd out)

@@ -1,5 +1,5 @@
 -- A run: the replies to the lines of an input, one after another, and their text.
-use Rattle.std.specs.Prelude.{◌≡◌, ◌≢◌, ℕ, ◌&&◌, ◌≤◌, nat_le, Bool, true, false, MatchBool, List, [], ◌∷◌, ◌++◌, All}
+use Rattle.std.specs.Prelude.{◌≡◌, ◌≢◌, ℕ, ◌&&◌, ◌≤◌, nat_le, Bool, true, false, MatchBool, List, [], ◌∷◌, ◌++◌, All, None}
 use Rattle.std.specs.List.{flat_map, AllZip}
 use Rattle.byte_base.specs.Count.{Rose}
 use Rattle.shell_lang.specs.declared.command.Command.{Command}
@@ -10,6 +10,7 @@ use Rattle.shell_lang.specs.declared.reply.ErrorWord.TheVariants as word
 use Rattle.shell_lang.specs.declared.reply.ScanEnd.TheVariants as last
 use Rattle.shell_lang.specs.Command.{SpellsLine, IsBadLine}
 use Rattle.shell_lang.specs.Reply.{ended, text_of}
+use Rattle.shell_words.specs.Plan.{Words, NameWords}
 use Rattle.book_model.specs.Book.{Book}
 use Rattle.shell_model.specs.State.{State, closed}
 use Rattle.shell_model.specs.Step.{Step}
@@ -71,6 +72,16 @@ pub record RunsTo (book : Book) (input text : List ℕ) (end : State) : Type 0 w
   pub answers : List Reply
   pub run : Run book read answers end
   pub text_is : text ≡ flat_map text_of answers
+
+-- the words of the command line name one database and no load, and the run is over the book that it holds: a database of no pages gets pages of
+-- the size that the words say
+pub record RunsByWords (words : List (List ℕ)) (book : Book) (input text : List ℕ) (end : State) : Type 0 where
+  pub named : Words
+  pub name : NameWords words named
+  pub alone : named.plan.attached ≡ None
+  pub no_load : named.load ≡ None
+  pub sized : book.pages ≡ 0 → book.page ≡ named.plan.page
+  pub run : RunsTo book input text end
 
 -- ---- what stands of a run whatever the device tells, by whether the session is stopped and how often the device has failed
 

@@ -1,7 +1,7 @@
 -- The machine: what is kept, the connections, and what a stop may have left in doubt.
-use Rattle.std.specs.Prelude.{◌≡◌, ◌⊎◌, ℕ, ◌+◌, ◌-◌, ◌==◌, ◌&&◌, nat_lt, nat_le, not, Bool, true, false, if◌then◌else◌, List, [], ◌∷◌, replicate, slice_index_or, slice_set, Option, Some, None, unwrap_or}
+use Rattle.std.specs.Prelude.{◌≡◌, ◌⊎◌, ◌↔◌, ℕ, ◌+◌, ◌-◌, ◌==◌, ◌&&◌, nat_lt, nat_le, not, Bool, true, false, if◌then◌else◌, List, [], ◌∷◌, replicate, slice_index_or, slice_set, Option, Some, None, unwrap_or}
 use Rattle.std.specs.List.{list_any}
-use Rattle.vfs_model.specs.Lock.{rank, all_free, level_at, with_level, after_refusal}
+use Rattle.vfs_model.specs.Lock.{Refuses, rank, all_free, level_at, with_level, after_refusal}
 use Rattle.vfs_model.specs.declared.level.Level.{Level}
 use Rattle.vfs_model.specs.declared.level.Level.TheVariants.{Free, Shared, Reserved, Pending, Exclusive}
 use Rattle.book_model.specs.Book.{Book}
@@ -67,6 +67,11 @@ owners = 1 ∷ 2 ∷ 3 ∷ 4 ∷ 5 ∷ 6 ∷ 7 ∷ 8 ∷ []
 abbrev pub is_refused : List Level → ℕ → Level → Bool
 is_refused levels who asked =
     nat_lt (rank (level_at levels who)) (rank asked) && list_any (λ other. not (other == who) && keeps_out asked (level_at levels other)) owners
+
+-- the test is the rule
+abbrev pub RefusedByRule : Type 0
+RefusedByRule = (levels : List Level) (who : ℕ) (asked : Level) →
+    is_refused levels who asked ≡ true ↔ ((after : List Level) × (holder : ℕ) × (level : Level) × Refuses levels after who asked holder level)
 
 -- the levels where it is granted
 abbrev pub granted : List Level → ℕ → Level → List Level

@@ -1,4 +1,4 @@
-use Rattle.shell_model.proofs.StepLemmas.{is_printed}
+use Rattle.shell_laws.proofs.StepLemmas.{is_printed}
 use Rattle.ref_shell.specs.Machine.{state_of}
 use Rattle.ref_shell.proofs.session.answer_command.Goals as goal
 

@@ -5,7 +5,7 @@ use Rattle.shell_lang.specs.declared.reply.Reply.TheVariants as reply
 use Rattle.shell_lang.specs.declared.reply.ErrorWord.TheVariants as word
 use Rattle.book_model.specs.Book.{Book, is_taken, with_table}
 use Rattle.shell_model.specs.State.{reached, seen}
-use Rattle.shell_model.proofs.CommandLemmas.{any_choice}
+use Rattle.shell_laws.proofs.CommandLemmas.{any_choice}
 use Rattle.ref_shell.specs.Machine.{state_of}
 use Rattle.ref_shell.proofs.Rests.{create_rest, create_table}
 use Rattle.ref_shell.proofs.Parts.{is_due, not_due, change_step, late_refusal}

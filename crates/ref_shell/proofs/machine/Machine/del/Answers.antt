@@ -4,7 +4,7 @@ use Rattle.shell_lang.specs.declared.command.Command.TheVariants as command
 use Rattle.shell_lang.specs.declared.reply.Reply.TheVariants as reply
 use Rattle.book_model.specs.Book.{Book, has_row, without_row}
 use Rattle.shell_model.specs.State.{State, reached, seen}
-use Rattle.shell_model.proofs.CommandLemmas.{any_choice}
+use Rattle.shell_laws.proofs.CommandLemmas.{any_choice}
 use Rattle.ref_shell.specs.Machine.{state_of}
 use Rattle.ref_shell.proofs.Rests.{del_rest, del_row}
 use Rattle.ref_shell.proofs.Parts.{is_due, not_due, change_step, late_refusal}

@@ -2,7 +2,7 @@ use Rattle.std.proofs.Common.{refl, ap}
 use Rattle.shell_lang.specs.declared.command.Command.TheVariants as command
 use Rattle.shell_lang.specs.declared.reply.Reply.TheVariants as reply
 use Rattle.book_model.specs.Book.{without_table}
-use Rattle.shell_model.proofs.CommandLemmas.{any_choice}
+use Rattle.shell_laws.proofs.CommandLemmas.{any_choice}
 use Rattle.ref_shell.specs.Machine.{state_of}
 use Rattle.ref_shell.proofs.Rests.{drop_rest}
 use Rattle.ref_shell.proofs.Parts.{change_step}

@@ -4,7 +4,7 @@ use Rattle.shell_lang.specs.declared.command.Command.TheVariants as command
 use Rattle.shell_lang.specs.declared.reply.Reply.{Reply}
 use Rattle.book_model.specs.Book.{Book, table_at}
 use Rattle.shell_model.specs.Cases.{row_reply}
-use Rattle.shell_model.proofs.CommandLemmas.{any_choice}
+use Rattle.shell_laws.proofs.CommandLemmas.{any_choice}
 use Rattle.ref_shell.specs.Machine.{state_of}
 use Rattle.ref_shell.proofs.Rests.{get_rest}
 use Rattle.ref_shell.proofs.Parts.{read_step}

@@ -1,5 +1,5 @@
 use Rattle.std.proofs.Common.{refl}
-use Rattle.shell_model.specs.Free.{may_want, may_fail, may_break_off}
+use Rattle.shell_laws.specs.Free.{may_want, may_fail, may_break_off}
 use Rattle.ref_shell.specs.Machine.{state_of}
 use Rattle.ref_shell.specs.declared.judge.FreeReply.TheVariants as free
 use Rattle.ref_shell.proofs.Gives.{gives}

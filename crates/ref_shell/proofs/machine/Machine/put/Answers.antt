@@ -5,7 +5,7 @@ use Rattle.shell_lang.specs.declared.reply.Reply.{Reply}
 use Rattle.book_model.specs.Book.{Book, has_row, with_row}
 use Rattle.shell_model.specs.State.{State, reached, seen}
 use Rattle.shell_model.specs.Cases.{Allows}
-use Rattle.shell_model.proofs.CommandLemmas.{any_choice}
+use Rattle.shell_laws.proofs.CommandLemmas.{any_choice}
 use Rattle.ref_shell.specs.Machine.{state_of}
 use Rattle.ref_shell.specs.Part.{put_values}
 use Rattle.ref_shell.proofs.Rests.{put_rest, put_row}

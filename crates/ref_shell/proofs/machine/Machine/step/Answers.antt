@@ -8,7 +8,7 @@ use Rattle.shell_lang.specs.declared.command.Command.{Command}
 use Rattle.shell_lang.specs.declared.command.Command.TheVariants as command
 use Rattle.shell_model.specs.State.{State}
 use Rattle.shell_model.specs.Step.{Step}
-use Rattle.shell_model.proofs.CommandLemmas.{reopen_step}
+use Rattle.shell_laws.proofs.CommandLemmas.{reopen_step}
 use Rattle.ref_shell.specs.Machine.{state_of}
 use Rattle.ref_shell.proofs.Parts.{said_step, plain_step}
 use Rattle.ref_shell.proofs.machine.Machine.step.Goals as goal

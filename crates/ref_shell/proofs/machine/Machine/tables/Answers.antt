@@ -4,7 +4,7 @@ use Rattle.shell_lang.specs.declared.reply.Reply.{Reply}
 use Rattle.shell_lang.specs.declared.reply.Reply.TheVariants as reply
 use Rattle.book_model.specs.Book.{Book}
 use Rattle.shell_model.specs.Cases.{tables_listed}
-use Rattle.shell_model.proofs.CommandLemmas.{any_choice}
+use Rattle.shell_laws.proofs.CommandLemmas.{any_choice}
 use Rattle.ref_shell.specs.Machine.{state_of}
 use Rattle.ref_shell.proofs.Rests.{tables_rest}
 use Rattle.ref_shell.proofs.Parts.{read_step}

@@ -1,7 +1,0 @@
-use Rattle.std.proofs.Common.{true, None}
-use Rattle.shell_model.proofs.SettledLemmas.{emptied}
-use Rattle.shell_model.proofs.StepLemmas.{step_settled}
-use Rattle.shell_model.proofs.stays_settled.Goals as goal
-
-pub returns : goal.returns
-returns c = record { closed = λ book. emptied book true None (λ d is. absurd (cc)); step = step_settled }

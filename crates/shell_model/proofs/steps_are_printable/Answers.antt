@@ -1,5 +1,0 @@
-use Rattle.shell_model.proofs.StepLemmas.{is_printed}
-use Rattle.shell_model.proofs.steps_are_printable.Goals as goal
-
-pub returns : goal.returns
-returns c = is_printed

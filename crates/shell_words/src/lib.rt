@@ -1,0 +1,10 @@
+//! What the words of the command line name: the databases of a session with their page size and the layers of their stack, a folder,
+//! and a load. Here are the definitions and one law; the code that reads the words is elsewhere.
+#![tactic(auto)]
+
+ghost use Rattle.shell_words.specs.Plan.{OneWord};
+
+/// One word that is a database's name names it, with nothing else, and one that is none names nothing.
+pub fn one_word()
+    ensures { OneWord }
+{}

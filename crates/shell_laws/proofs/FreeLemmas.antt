@@ -8,16 +8,20 @@ use Rattle.shell_lang.specs.declared.command.Command.{Command}
 use Rattle.shell_lang.specs.declared.command.Command.TheVariants as command
 use Rattle.shell_lang.specs.declared.reply.Reply.{Reply}
 use Rattle.shell_lang.specs.declared.reply.Reply.TheVariants as reply
+use Rattle.shell_lang.specs.declared.reply.ScanEnd.TheVariants as last
 use Rattle.shell_lang.specs.declared.reply.ErrorWord.TheVariants as word
 use Rattle.book_model.specs.Book.{Book, Name, Row, table_at, is_plain, is_foreign, is_taken, has_row, with_table, without_table, with_row, without_row}
 use Rattle.shell_model.specs.State.{State, is_inside, is_refused, own, reached, halted, committed_book, seen}
 use Rattle.shell_model.specs.Cases as case
 use Rattle.shell_model.specs.Cases.{Pick, Case, due, Allows, cases_of, sized, writing, looking, changing, row_reply, is_long}
-use Rattle.shell_model.specs.Step.{takes_memory}
-use Rattle.shell_laws.specs.Free.{may_want, may_commit, may_fail, may_write, finds, accepts, may_break_off, SomeStep, FreeReplies, IsHalted, FreeStates}
+use Rattle.shell_model.specs.Step.{Step, takes_memory}
+use Rattle.shell_laws.specs.Free.{may_want, may_commit, may_fail, may_write, finds, accepts, may_change, may_break_off, cut_off, SomeStep, FreeReplies, IsHalted, FreeStates}
 use Rattle.shell_laws.specs.Laws.{fewest}
 use Rattle.shell_laws.proofs.CaseLemmas.{never, LeadsTo, leads}
 use Rattle.shell_laws.proofs.CommandLemmas.{any_choice, memory_step, fewest_is_fair}
+use Rattle.shell_laws.proofs.TestLemmas.{goes, both, and_first, and_second, not_true, not_false, at_false, writes_of, finds_of}
+use Rattle.shell_laws.proofs.ChangeLemmas.{broken_by, change_cut, commit_tests, too_large}
+use Rattle.shell_laws.proofs.CutLemmas.{is_large, larges, is_rows_cut, cut_offs, scan_cut}
 
 abbrev is_memory : Reply → Bool
 is_memory reply.Memory = true
@@ -26,29 +30,6 @@ is_memory _ = false
 abbrev is_fault : Reply → Bool
 is_fault reply.Fault = true
 is_fault _ = false
-
--- tests that hold together
-goes : (b : Bool) → b ≡ false → not b ≡ true
-goes b is = cc
-
-both : (a b : Bool) → a ≡ true → b ≡ true → (a && b) ≡ true
-both a b p q = cc
-
-and_first : (a b : Bool) → (a && b) ≡ true → a ≡ true
-and_first true b e = refl
-and_first false b e = absurd (cc)
-
-and_second : (a b : Bool) → (a && b) ≡ true → b ≡ true
-and_second true b e = e
-and_second false b e = absurd (cc)
-
-not_true : (b : Bool) → not b ≡ true → b ≡ false
-not_true true e = absurd (cc)
-not_true false e = refl
-
-not_false : (b : Bool) → not b ≡ false → b ≡ true
-not_false true e = refl
-not_false false e = absurd (cc)
 
 -- ---- memory
 
@@ -71,22 +52,22 @@ wants pick s who command.Reopen next l = absurd l.1
 commit_wants : (pick : Pick) (s : State) (who : ℕ) → s.stopped ≡ false → is_inside s who ≡ true → is_some (own s who) ≡ true → Allows (cases_of pick s who command.Commit) reply.Memory s
 commit_wants pick s who live inside mine = rw live (rw inside (rw mine (inl (refl, refl, refl))))
 
-wanted : (s : State) (who : ℕ) (asked : Command) → s.doubt ≡ None → may_want s who asked ≡ true → SomeStep s who asked reply.Memory
-wanted s who command.Commit certain may =
+wanted : (s : State) (who : ℕ) (asked : Command) → may_want s who asked ≡ true → SomeStep s who asked reply.Memory
+wanted s who command.Commit may =
     let live = not_true s.stopped (and_first (not s.stopped) (is_inside s who && is_some (own s who)) may) in
     let rest = and_second (not s.stopped) (is_inside s who && is_some (own s who)) may in
-    (s, any_choice s who command.Commit reply.Memory s certain (λ pick. commit_wants pick s who live (and_first (is_inside s who) (is_some (own s who)) rest) (and_second (is_inside s who) (is_some (own s who)) rest)))
-wanted s who command.Begin certain may = absurd (never (and_second (not s.stopped) false may) refl)
-wanted s who command.Rollback certain may = absurd (never (and_second (not s.stopped) false may) refl)
-wanted s who command.Reopen certain may = absurd (never (and_second (not s.stopped) false may) refl)
-wanted s who (command.Create table columns) certain may = (s, memory_step s who (command.Create table columns) certain (not_true s.stopped (and_first (not s.stopped) true may)) refl)
-wanted s who (command.Drop table) certain may = (s, memory_step s who (command.Drop table) certain (not_true s.stopped (and_first (not s.stopped) true may)) refl)
-wanted s who (command.Put table rowid values) certain may = (s, memory_step s who (command.Put table rowid values) certain (not_true s.stopped (and_first (not s.stopped) true may)) refl)
-wanted s who (command.Del table rowid) certain may = (s, memory_step s who (command.Del table rowid) certain (not_true s.stopped (and_first (not s.stopped) true may)) refl)
-wanted s who (command.Get table rowid) certain may = (s, memory_step s who (command.Get table rowid) certain (not_true s.stopped (and_first (not s.stopped) true may)) refl)
-wanted s who (command.Scan table low high) certain may = (s, memory_step s who (command.Scan table low high) certain (not_true s.stopped (and_first (not s.stopped) true may)) refl)
-wanted s who (command.Count table) certain may = (s, memory_step s who (command.Count table) certain (not_true s.stopped (and_first (not s.stopped) true may)) refl)
-wanted s who command.Tables certain may = (s, memory_step s who command.Tables certain (not_true s.stopped (and_first (not s.stopped) true may)) refl)
+    (s, any_choice s who command.Commit reply.Memory s (λ pick. commit_wants pick s who live (and_first (is_inside s who) (is_some (own s who)) rest) (and_second (is_inside s who) (is_some (own s who)) rest)))
+wanted s who command.Begin may = absurd (never (and_second (not s.stopped) false may) refl)
+wanted s who command.Rollback may = absurd (never (and_second (not s.stopped) false may) refl)
+wanted s who command.Reopen may = absurd (never (and_second (not s.stopped) false may) refl)
+wanted s who (command.Create table columns) may = (s, memory_step s who (command.Create table columns) (not_true s.stopped (and_first (not s.stopped) true may)) refl)
+wanted s who (command.Drop table) may = (s, memory_step s who (command.Drop table) (not_true s.stopped (and_first (not s.stopped) true may)) refl)
+wanted s who (command.Put table rowid values) may = (s, memory_step s who (command.Put table rowid values) (not_true s.stopped (and_first (not s.stopped) true may)) refl)
+wanted s who (command.Del table rowid) may = (s, memory_step s who (command.Del table rowid) (not_true s.stopped (and_first (not s.stopped) true may)) refl)
+wanted s who (command.Get table rowid) may = (s, memory_step s who (command.Get table rowid) (not_true s.stopped (and_first (not s.stopped) true may)) refl)
+wanted s who (command.Scan table low high) may = (s, memory_step s who (command.Scan table low high) (not_true s.stopped (and_first (not s.stopped) true may)) refl)
+wanted s who (command.Count table) may = (s, memory_step s who (command.Count table) (not_true s.stopped (and_first (not s.stopped) true may)) refl)
+wanted s who command.Tables may = (s, memory_step s who command.Tables (not_true s.stopped (and_first (not s.stopped) true may)) refl)
 
 -- ---- faults
 
@@ -131,48 +112,62 @@ commit_fails : (pick : Pick) (s : State) (who : ℕ) → s.stopped ≡ false →
     Allows (cases_of pick s who command.Commit) reply.Fault (halted s (Some (record { before = s.kept; after = committed_book s.kept (seen s who) })))
 commit_fails pick s who live inside mine fresh free = rw live (rw inside (rw mine (inr (rw fresh (rw free (inl (refl, refl, refl)))))))
 
-read_fails : (s : State) (who : ℕ) (asked : Command) → s.doubt ≡ None → takes_memory asked ≡ true → (not s.stopped && not (is_refused s.levels who Shared)) ≡ true → SomeStep s who asked reply.Fault
-read_fails s who asked certain takes may =
+pub read_fails : (s : State) (who : ℕ) (asked : Command) → takes_memory asked ≡ true → (not s.stopped && not (is_refused s.levels who Shared)) ≡ true → Step s who asked reply.Fault (halted s s.doubt)
+read_fails s who asked takes may =
     let live = not_true s.stopped (and_first (not s.stopped) (not (is_refused s.levels who Shared)) may) in
     let free = not_true (is_refused s.levels who Shared) (and_second (not s.stopped) (not (is_refused s.levels who Shared)) may) in
-    (halted s s.doubt, any_choice s who asked reply.Fault (halted s s.doubt) certain (λ pick. table_fails pick s who asked takes live free))
+    any_choice s who asked reply.Fault (halted s s.doubt) (λ pick. table_fails pick s who asked takes live free)
 
-failed : (s : State) (who : ℕ) (asked : Command) → s.doubt ≡ None → may_fail s who asked ≡ true → SomeStep s who asked reply.Fault
-failed s who (command.Create table columns) certain may = read_fails s who (command.Create table columns) certain refl may
-failed s who (command.Drop table) certain may = read_fails s who (command.Drop table) certain refl may
-failed s who (command.Put table rowid values) certain may = read_fails s who (command.Put table rowid values) certain refl may
-failed s who (command.Del table rowid) certain may = read_fails s who (command.Del table rowid) certain refl may
-failed s who (command.Get table rowid) certain may = read_fails s who (command.Get table rowid) certain refl may
-failed s who (command.Scan table low high) certain may = read_fails s who (command.Scan table low high) certain refl may
-failed s who (command.Count table) certain may = read_fails s who (command.Count table) certain refl may
-failed s who command.Tables certain may = read_fails s who command.Tables certain refl may
-failed s who command.Begin certain may = absurd (never (and_second (not s.stopped) false may) refl)
-failed s who command.Rollback certain may = absurd (never (and_second (not s.stopped) false may) refl)
-failed s who command.Commit certain may =
-    let worn : Bool = s.kept.counter == 4294967295 in
-    let refused : Bool = is_refused s.levels who Exclusive in
-    let mine : Bool = is_inside s who && is_some (own s who) in
-    let rest : Bool = not worn && not refused in
-    let live = not_true s.stopped (and_first (not s.stopped) (mine && rest) may) in
-    let all = and_second (not s.stopped) (mine && rest) may in
-    let own_is = and_first mine rest all in
-    let end = and_second mine rest all in (
-      _,
-      any_choice s who command.Commit reply.Fault (halted s (Some (record { before = s.kept; after = committed_book s.kept (seen s who) }))) certain
-          (λ pick. commit_fails pick s who live (and_first (is_inside s who) (is_some (own s who)) own_is) (and_second (is_inside s who) (is_some (own s who)) own_is)
-          (not_true worn (and_first (not worn) (not refused) end)) (not_true refused (and_second (not worn) (not refused) end))),
-    )
-failed s who command.Reopen certain may = (halted s s.doubt, any_choice s who command.Reopen reply.Fault (halted s s.doubt) certain (λ pick. inl (refl, refl, refl)))
+commit_breaks : (pick : Pick) (s : State) (who : ℕ) → s.stopped ≡ false → is_inside s who ≡ true → is_some (own s who) ≡ true → (s.kept.counter == 4294967295) ≡ false → is_refused s.levels who Exclusive ≡ false →
+    Allows (cases_of pick s who command.Commit) reply.MemoryStopped (cut_off s (seen s who))
+commit_breaks pick s who live inside mine fresh free = rw live (rw inside (rw mine (inr (rw fresh (rw free (inr (inl (refl, refl, refl))))))))
+
+-- a commit with a change
+pub commit_cut : (fault : Bool) (s : State) (who : ℕ) → may_break_off s who command.Commit ≡ true → Step s who command.Commit (broken_by fault) (cut_off s (seen s who))
+commit_cut fault s who may = any_choice s who command.Commit (broken_by fault) (cut_off s (seen s who)) (λ pick. by pick fault)
+  where
+    mine : Bool
+    mine = is_inside s who && is_some (own s who)
+
+    all : (mine && may_commit s who) ≡ true
+    all = and_second (not s.stopped) (mine && may_commit s who) may
+
+    by : (pick : Pick) (fault : Bool) → Allows (cases_of pick s who command.Commit) (broken_by fault) (cut_off s (seen s who))
+    by pick true =
+        let own_is = and_first mine (may_commit s who) all in
+        let tests = commit_tests s who (and_second mine (may_commit s who) all) in
+        commit_fails pick s who (not_true s.stopped (and_first (not s.stopped) (mine && may_commit s who) may)) (and_first (is_inside s who) (is_some (own s who)) own_is)
+        (and_second (is_inside s who) (is_some (own s who)) own_is) tests.0 tests.1
+    by pick false =
+        let own_is = and_first mine (may_commit s who) all in
+        let tests = commit_tests s who (and_second mine (may_commit s who) all) in
+        commit_breaks pick s who (not_true s.stopped (and_first (not s.stopped) (mine && may_commit s who) may)) (and_first (is_inside s who) (is_some (own s who)) own_is)
+        (and_second (is_inside s who) (is_some (own s who)) own_is) tests.0 tests.1
+
+-- an opening
+pub opening_cut : (fault : Bool) (s : State) (who : ℕ) → Step s who command.Reopen (broken_by fault) (halted s s.doubt)
+opening_cut true s who = any_choice s who command.Reopen reply.Fault (halted s s.doubt) (λ pick. inl (refl, refl, refl))
+opening_cut false s who = any_choice s who command.Reopen reply.MemoryStopped (halted s s.doubt) (λ pick. inr (inl (refl, refl, refl)))
+
+failed : (s : State) (who : ℕ) (asked : Command) → may_fail s who asked ≡ true → SomeStep s who asked reply.Fault
+failed s who (command.Create table columns) may = (_, read_fails s who (command.Create table columns) refl may)
+failed s who (command.Drop table) may = (_, read_fails s who (command.Drop table) refl may)
+failed s who (command.Put table rowid values) may = (_, read_fails s who (command.Put table rowid values) refl may)
+failed s who (command.Del table rowid) may = (_, read_fails s who (command.Del table rowid) refl may)
+failed s who (command.Get table rowid) may = (_, read_fails s who (command.Get table rowid) refl may)
+failed s who (command.Scan table low high) may = (_, read_fails s who (command.Scan table low high) refl may)
+failed s who (command.Count table) may = (_, read_fails s who (command.Count table) refl may)
+failed s who command.Tables may = (_, read_fails s who command.Tables refl may)
+failed s who command.Begin may = absurd (never (and_second (not s.stopped) false may) refl)
+failed s who command.Rollback may = absurd (never (and_second (not s.stopped) false may) refl)
+failed s who command.Commit may = (_, commit_cut true s who may)
+failed s who command.Reopen may = (_, opening_cut true s who)
 
 -- ---- memory wanted once the device was asked
 
 abbrev is_cut : Reply → Bool
 is_cut reply.MemoryStopped = true
 is_cut _ = false
-
-at_false : (b : Bool) (P Q : Type 0) → b ≡ false → MatchBool b P Q → Q
-at_false true P Q is l = absurd (cc)
-at_false false P Q is l = l
 
 no_cut_row : (rowid : ℤ) (found : Option Row) → is_cut (row_reply rowid found) ≡ false
 no_cut_row rowid None = refl
@@ -181,17 +176,6 @@ no_cut_row rowid (Some row) = refl
 no_cut_put : (there : Bool) → is_cut (cond there reply.Replaced reply.New) ≡ false
 no_cut_put true = refl
 no_cut_put false = refl
-
-finds_of : (p f : Bool) → (not p && not f) ≡ false → f ≡ false → (p && not f) ≡ true
-finds_of true false none other = refl
-finds_of true true none other = absurd (cc)
-finds_of false true none other = absurd (cc)
-finds_of false false none other = absurd (cc)
-
-writes_of : (s : State) (who : ℕ) → s.stopped ≡ false → is_refused s.levels who Shared ≡ false → is_refused s.levels who Reserved ≡ false → may_write s who ≡ true
-writes_of s who live shared reserved =
-    both (not s.stopped) (not (is_refused s.levels who Shared) && not (is_refused s.levels who Reserved)) (goes s.stopped live)
-    (both (not (is_refused s.levels who Shared)) (not (is_refused s.levels who Reserved)) (goes (is_refused s.levels who Shared) shared) (goes (is_refused s.levels who Reserved) reserved))
 
 commits_of : (s : State) (who : ℕ) → (s.kept.counter == 4294967295) ≡ false → is_refused s.levels who Exclusive ≡ false → may_commit s who ≡ true
 commits_of s who fresh free =
@@ -240,158 +224,50 @@ breaks pick s who command.Commit next l =
     (commits_of s who l.1.1.1.0 l.1.1.1.1.0))
 breaks pick s who command.Reopen next l = refl
 
--- what a commit that is cut off leaves
-abbrev cut_off : State → Book → State
-cut_off s book = halted s (Some (record { before = s.kept; after = committed_book s.kept book }))
-
-abbrev fewest_book : State → ℕ → Book → Book
-fewest_book s who book = sized (fewest s who) book
-
-true_not : (b : Bool) → b ≡ true → not b ≡ false
-true_not true e = refl
-true_not false e = absurd (cc)
-
-commit_breaks : (pick : Pick) (s : State) (who : ℕ) → s.stopped ≡ false → is_inside s who ≡ true → is_some (own s who) ≡ true → (s.kept.counter == 4294967295) ≡ false → is_refused s.levels who Exclusive ≡ false →
-    Allows (cases_of pick s who command.Commit) reply.MemoryStopped (cut_off s (seen s who))
-commit_breaks pick s who live inside mine fresh free = rw live (rw inside (rw mine (inr (rw fresh (rw free (inr (inl (refl, refl, refl))))))))
-
--- the tests that hold where a change may be broken off
-record Breaks (s : State) (who : ℕ) : Type 0 where
-  live : s.stopped ≡ false
-  shared : is_refused s.levels who Shared ≡ false
-  reserved : is_refused s.levels who Reserved ≡ false
-  outside : is_inside s who ≡ false
-  fresh : (s.kept.counter == 4294967295) ≡ false
-  free : is_refused s.levels who Exclusive ≡ false
-
-commit_tests : (s : State) (who : ℕ) → may_commit s who ≡ true → ((s.kept.counter == 4294967295) ≡ false) × (is_refused s.levels who Exclusive ≡ false)
-commit_tests s who may =
-    let worn : Bool = s.kept.counter == 4294967295 in
-    let refused : Bool = is_refused s.levels who Exclusive in
-    (not_true worn (and_first (not worn) (not refused) may), not_true refused (and_second (not worn) (not refused) may))
-
-tests_of : (s : State) (who : ℕ) → may_write s who ≡ true → (not (is_inside s who) && may_commit s who) ≡ true → Breaks s who
-tests_of s who write end =
-    let refused : Bool = not (is_refused s.levels who Shared) && not (is_refused s.levels who Reserved) in
-    let levels = and_second (not s.stopped) refused write in
-    let commit = commit_tests s who (and_second (not (is_inside s who)) (may_commit s who) end) in
-    record {
-      live = not_true s.stopped (and_first (not s.stopped) refused write);
-      shared = not_true (is_refused s.levels who Shared) (and_first (not (is_refused s.levels who Shared)) (not (is_refused s.levels who Reserved)) levels);
-      reserved = not_true (is_refused s.levels who Reserved) (and_second (not (is_refused s.levels who Shared)) (not (is_refused s.levels who Reserved)) levels);
-      outside = not_true (is_inside s who) (and_first (not (is_inside s who)) (may_commit s who) end);
-      fresh = commit.0;
-      free = commit.1;
-    }
-
--- the parts that several commands share, each with what comes after it
-write_breaks : (s : State) (who : ℕ) (cases : List Case) (next : State) → Breaks s who → Allows cases reply.MemoryStopped next → Allows (case.asked s (writing s who cases)) reply.MemoryStopped next
-write_breaks s who cases next t rest = let live = t.live in let shared = t.shared in let reserved = t.reserved in rw live (inr (rw shared (inr (rw reserved rest))))
-
-look_breaks : (after : State) (book : Book) (name : Name) (cases : List Case) (next : State) → (is_plain book name && not (is_foreign book name)) ≡ true → Allows cases reply.MemoryStopped next → Allows (looking after book name cases) reply.MemoryStopped next
-look_breaks after book name cases next found rest = by (is_plain book name) (is_foreign book name) found
-  where
-    by : (p f : Bool) → (p && not f) ≡ true → Allows (due (not p && not f) (reply.Error word.NoTable) after ∷ due f (reply.Error word.Foreign) after ∷ cases) reply.MemoryStopped next
-    by true false e = rest
-    by true true e = absurd (cc)
-    by false f e = absurd (cc)
-
-due_breaks : (holds : Bool) (r : Reply) (after : State) (cases : List Case) (next : State) → holds ≡ false → Allows cases reply.MemoryStopped next → Allows (due holds r after ∷ cases) reply.MemoryStopped next
-due_breaks false r after cases next is rest = rest
-due_breaks true r after cases next is rest = absurd (cc)
-
-change_breaks : (s : State) (who : ℕ) (book : Book) (said : Reply) → Breaks s who → Allows (changing s who book said) reply.MemoryStopped (cut_off s book)
-change_breaks s who book said t = let outside = t.outside in let fresh = t.fresh in let free = t.free in inr (rw outside (rw fresh (rw free (inr (inl (refl, refl, refl))))))
-
--- a step by the choice of the fewest pages
-by_fewest : (s : State) (who : ℕ) (asked : Command) (next : State) → s.doubt ≡ None → Allows (cases_of (fewest s who) s who asked) reply.MemoryStopped next → SomeStep s who asked reply.MemoryStopped
-by_fewest s who asked next certain allowed = (next, record { pick = fewest s who; fair = fewest_is_fair s who asked certain; allowed = allowed })
-
-broken : (s : State) (who : ℕ) (asked : Command) → s.doubt ≡ None → may_break_off s who asked ≡ true → SomeStep s who asked reply.MemoryStopped
-broken s who (command.Create table columns) certain may =
-    let taken : Bool = is_taken (seen s who) table.name in
+change_broken : (s : State) (who : ℕ) (asked : Command) → (may_change s who asked && (not (is_inside s who) && may_commit s who)) ≡ true → SomeStep s who asked reply.MemoryStopped
+change_broken s who asked may =
     let end : Bool = not (is_inside s who) && may_commit s who in
-    let change = and_first (may_write s who && not taken) end may in
-    let t = tests_of s who (and_first (may_write s who) (not taken) change) (and_second (may_write s who && not taken) end may) in
-    let book = fewest_book s who (with_table (seen s who) table.name columns 2) in
-    by_fewest s who (command.Create table columns) (cut_off s book) certain
-    (write_breaks s who (due taken (reply.Error word.Exists) (reached s who Reserved) ∷ changing s who book reply.Done) (cut_off s book) t
-    (due_breaks taken (reply.Error word.Exists) (reached s who Reserved) (changing s who book reply.Done) (cut_off s book) (not_true taken (and_second (may_write s who) (not taken) change))
-    (change_breaks s who book reply.Done t)))
-broken s who (command.Drop table) certain may =
-    let found : Bool = finds s who table.name in
-    let end : Bool = not (is_inside s who) && may_commit s who in
-    let change = and_first (may_write s who && found) end may in
-    let t = tests_of s who (and_first (may_write s who) found change) (and_second (may_write s who && found) end may) in
-    let book = fewest_book s who (without_table (seen s who) table.name) in
-    let rest = changing s who book reply.Done in
-    by_fewest s who (command.Drop table) (cut_off s book) certain
-    (write_breaks s who (looking (reached s who Reserved) (seen s who) table.name rest) (cut_off s book) t
-    (look_breaks (reached s who Reserved) (seen s who) table.name rest (cut_off s book) (and_second (may_write s who) found change) (change_breaks s who book reply.Done t)))
-broken s who (command.Put table rowid values) certain may =
-    let found : Bool = finds s who table.name in
-    let takes : Bool = accepts s who table.name values in
-    let wide : Bool = length values == length (table_at (seen s who) table.name).columns in
-    let long : Bool = list_any is_long values in
-    let end : Bool = not (is_inside s who) && may_commit s who in
-    let change = and_first (may_write s who && (found && takes)) end may in
-    let t = tests_of s who (and_first (may_write s who) (found && takes) change) (and_second (may_write s who && (found && takes)) end may) in
-    let rest = and_second (may_write s who) (found && takes) change in
-    let fits = and_second found takes rest in
-    let book = fewest_book s who (with_row (seen s who) table.name rowid values) in
-    let said = cond (has_row (seen s who) table.name rowid) reply.Replaced reply.New in
-    let after = reached s who Reserved in
-    let changes = changing s who book said in
-    let shorts = due long (reply.Error word.TooLong) after ∷ changes in
-    by_fewest s who (command.Put table rowid values) (cut_off s book) certain
-    (write_breaks s who (looking after (seen s who) table.name (due (not wide) (reply.Error word.Columns) after ∷ shorts)) (cut_off s book) t
-    (look_breaks after (seen s who) table.name (due (not wide) (reply.Error word.Columns) after ∷ shorts) (cut_off s book) (and_first found takes rest)
-    (due_breaks (not wide) (reply.Error word.Columns) after shorts (cut_off s book) (true_not wide (and_first wide (not long) fits))
-    (due_breaks long (reply.Error word.TooLong) after changes (cut_off s book) (not_true long (and_second wide (not long) fits)) (change_breaks s who book said t)))))
-broken s who (command.Del table rowid) certain may =
-    let found : Bool = finds s who table.name in
-    let there : Bool = has_row (seen s who) table.name rowid in
-    let end : Bool = not (is_inside s who) && may_commit s who in
-    let change = and_first (may_write s who && (found && there)) end may in
-    let t = tests_of s who (and_first (may_write s who) (found && there) change) (and_second (may_write s who && (found && there)) end may) in
-    let rest = and_second (may_write s who) (found && there) change in
-    let book = fewest_book s who (without_row (seen s who) table.name rowid) in
-    let after = reached s who Reserved in
-    let changes = changing s who book reply.Done in
-    by_fewest s who (command.Del table rowid) (cut_off s book) certain
-    (write_breaks s who (looking after (seen s who) table.name (due (not there) reply.Nothing after ∷ changes)) (cut_off s book) t
-    (look_breaks after (seen s who) table.name (due (not there) reply.Nothing after ∷ changes) (cut_off s book) (and_first found there rest)
-    (due_breaks (not there) reply.Nothing after changes (cut_off s book) (true_not there (and_second found there rest)) (change_breaks s who book reply.Done t))))
-broken s who (command.Get table rowid) certain may = absurd (cc)
-broken s who (command.Scan table low high) certain may = absurd (cc)
-broken s who (command.Count table) certain may = absurd (cc)
-broken s who command.Tables certain may = absurd (cc)
-broken s who command.Begin certain may = absurd (cc)
-broken s who command.Rollback certain may = absurd (cc)
-broken s who command.Commit certain may =
-    let mine : Bool = is_inside s who && is_some (own s who) in
-    let all = and_second (not s.stopped) (mine && may_commit s who) may in
-    let own_is = and_first mine (may_commit s who) all in
-    let live = not_true s.stopped (and_first (not s.stopped) (mine && may_commit s who) may) in
-    let inside = and_first (is_inside s who) (is_some (own s who)) own_is in
-    let has = and_second (is_inside s who) (is_some (own s who)) own_is in
-    let commit = commit_tests s who (and_second mine (may_commit s who) all) in
-    by_fewest s who command.Commit (cut_off s (seen s who)) certain (commit_breaks (fewest s who) s who live inside has commit.0 commit.1)
-broken s who command.Reopen certain may = by_fewest s who command.Reopen (halted s s.doubt) certain (inr (inl (refl, refl, refl)))
+    (_, change_cut false (fewest s who) s who asked (fewest_is_fair s who asked) (and_first (may_change s who asked) end may) (and_second (may_change s who asked) end may))
+
+broken : (s : State) (who : ℕ) (asked : Command) → may_break_off s who asked ≡ true → SomeStep s who asked reply.MemoryStopped
+broken s who (command.Create table columns) may = change_broken s who (command.Create table columns) may
+broken s who (command.Drop table) may = change_broken s who (command.Drop table) may
+broken s who (command.Put table rowid values) may = change_broken s who (command.Put table rowid values) may
+broken s who (command.Del table rowid) may = change_broken s who (command.Del table rowid) may
+broken s who (command.Get table rowid) may = absurd (cc)
+broken s who (command.Scan table low high) may = absurd (cc)
+broken s who (command.Count table) may = absurd (cc)
+broken s who command.Tables may = absurd (cc)
+broken s who command.Begin may = absurd (cc)
+broken s who command.Rollback may = absurd (cc)
+broken s who command.Commit may = (_, commit_cut false s who may)
+broken s who command.Reopen may = (_, opening_cut false s who)
 
 pub free_replies : FreeReplies
 free_replies = record {
-  memory = λ s who asked certain. (
+  memory = λ s who asked. (
     λ some. wants some.1.pick s who asked some.0 (leads is_memory (cases_of some.1.pick s who asked) reply.Memory some.0 some.1.allowed refl),
-    λ may. wanted s who asked certain may,
+    λ may. wanted s who asked may,
   );
-  fault = λ s who asked certain. (
+  fault = λ s who asked. (
     λ some. fails some.1.pick s who asked some.0 (leads is_fault (cases_of some.1.pick s who asked) reply.Fault some.0 some.1.allowed refl),
-    λ may. failed s who asked certain may,
+    λ may. failed s who asked may,
   );
-  broken_off = λ s who asked certain. (
+  broken_off = λ s who asked. (
     λ some. breaks some.1.pick s who asked some.0 (leads is_cut (cases_of some.1.pick s who asked) reply.MemoryStopped some.0 some.1.allowed refl),
-    λ may. broken s who asked certain may,
+    λ may. broken s who asked may,
+  );
+  large = λ s who asked pages. (
+    λ some. (larges some.1.pick s who asked pages some.0 (leads is_large (cases_of some.1.pick s who asked) (reply.Large pages) some.0 some.1.allowed refl)).0,
+    λ may. (_, too_large s who asked pages may),
+  );
+  cut_by_fault = λ s who asked rows. (
+    λ some. (cut_offs some.1.pick s who asked rows true some.0 (leads is_rows_cut (cases_of some.1.pick s who asked) (reply.Rows rows last.Fault) some.0 some.1.allowed refl)).0,
+    λ may. (_, scan_cut true s who asked rows may),
+  );
+  cut_by_memory = λ s who asked rows. (
+    λ some. (cut_offs some.1.pick s who asked rows false some.0 (leads is_rows_cut (cases_of some.1.pick s who asked) (reply.Rows rows last.Memory) some.0 some.1.allowed refl)).0,
+    λ may. (_, scan_cut false s who asked rows may),
   );
 }
 
@@ -502,4 +378,7 @@ free_states = record {
   memory = λ s who asked next step. keeps step.pick s who asked next (leads is_memory (cases_of step.pick s who asked) reply.Memory next step.allowed refl);
   fault = λ s who asked next step. stops step.pick s who asked next (leads is_fault (cases_of step.pick s who asked) reply.Fault next step.allowed refl);
   broken_off = λ s who asked next step. cuts step.pick s who asked next (leads is_cut (cases_of step.pick s who asked) reply.MemoryStopped next step.allowed refl);
+  large = λ s who asked pages next step. (larges step.pick s who asked pages next (leads is_large (cases_of step.pick s who asked) (reply.Large pages) next step.allowed refl)).1;
+  cut_by_fault = λ s who asked rows next step. (cut_offs step.pick s who asked rows true next (leads is_rows_cut (cases_of step.pick s who asked) (reply.Rows rows last.Fault) next step.allowed refl)).1;
+  cut_by_memory = λ s who asked rows next step. (cut_offs step.pick s who asked rows false next (leads is_rows_cut (cases_of step.pick s who asked) (reply.Rows rows last.Memory) next step.allowed refl)).1;
 }

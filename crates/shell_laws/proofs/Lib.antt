@@ -6,6 +6,9 @@ pub mod DraftLemmas
 pub mod SettledLemmas
 pub mod OutcomeLemmas
 pub mod StepLemmas
+pub mod TestLemmas
+pub mod ChangeLemmas
+pub mod CutLemmas
 pub mod FreeLemmas
 pub mod MapLemmas
 pub mod SameBookLemmas

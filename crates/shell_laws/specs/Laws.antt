@@ -18,17 +18,25 @@ use Rattle.byte_base.specs.Count.{Rose}
 use Rattle.shell_model.specs.Run.{Line, Answers, RunFrom, Block, says_fault, stopped_after}
 use Rattle.shell_model.specs.Step.{Step, first_due, is_free}
 
--- replies other than the free ones are determined by the state
+-- replies other than the free ones are determined by the state, but for those of an opening where a commit is in doubt
 abbrev pub RepliesAreDetermined : Type 0
-RepliesAreDetermined = (s : State) (who : ℕ) (asked : Command) (answer other : Reply) (next after : State) → s.doubt ≡ None →
+RepliesAreDetermined = (s : State) (who : ℕ) (asked : Command) (answer other : Reply) (next after : State) → (s.doubt ≡ None) ⊎ (asked ≢ command.Reopen) →
     Step s who asked answer next → Step s who asked other after → is_free answer ≡ false → is_free other ≡ false → answer ≡ other
+
+-- the first of the books that an opening may find
+abbrev pub first_of : Option Doubt → Book → Book
+first_of None kept = kept
+first_of (Some doubt) kept = doubt.before
+
+abbrev pub first_found : State → Book
+first_found s = first_of s.doubt s.kept
 
 -- the choice of the fewest pages: one page is in use, and every other is free
 abbrev pub fewest : State → ℕ → Pick
 fewest s who =
     let book = seen s who in
     let pages = max book.pages (length book.unnamed + 1) in
-    record { pages = pages; free = pages - length book.unnamed - 1; root = 2; rows = 0; found = s.kept }
+    record { pages = pages; free = pages - length book.unnamed - 1; root = 2; rows = 0; found = first_found s }
 
 -- the reply that is due where nothing fails and memory is there, and the state after it
 abbrev pub reference : State → ℕ → Command → Option (Reply × State)
@@ -36,7 +44,7 @@ reference s who asked = first_due (cases_of (fewest s who) s who asked)
 
 -- there is such a reply, and the machine may give it
 abbrev pub ReferenceIsAllowed : Type 0
-ReferenceIsAllowed = (s : State) (who : ℕ) (asked : Command) → s.doubt ≡ None →
+ReferenceIsAllowed = (s : State) (who : ℕ) (asked : Command) →
     (answer : Reply) × (next : State) × (reference s who asked ≡ Some (answer, next)) × Step s who asked answer next
 
 -- a book has a row with these values

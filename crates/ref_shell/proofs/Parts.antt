@@ -37,21 +37,21 @@ is_there after book name plain cases answer next allowed =
     (not_due foreign (reply.Error word.Foreign) after cases answer next (plain_is_not_foreign book name plain) allowed)
 
 -- a read that was done: it says what is seen, and its connection keeps Shared
-pub read_step : (s mid : State) (who : ℕ) (asked : Command) (say : Book → Reply) (view : Book) (answer : Reply) (next : State) → s.doubt ≡ None →
+pub read_step : (s mid : State) (who : ℕ) (asked : Command) (say : Book → Reply) (view : Book) (answer : Reply) (next : State) →
     mid ≡ s → view ≡ seen mid who → answer ≡ say view → next ≡ reached mid who Shared →
     ((pick : Pick) → Allows (due true (say (seen s who)) (reached s who Shared) ∷ []) answer next → Allows (cases_of pick s who asked) answer next) →
     Step s who asked answer next
-read_step s mid who asked say view answer next certain same seen= said moved goes =
-    any_choice s who asked answer next certain (λ pick. goes pick
+read_step s mid who asked say view answer next same seen= said moved goes =
+    any_choice s who asked answer next (λ pick. goes pick
     (said ∙ ap say (seen= ∙ ap (λ (m : State). seen m who) same), moved ∙ ap (λ (m : State). reached m who Shared) same))
 
 -- a change that was done: a shelf has taken it, and it was kept as a draft or committed
-pub change_step : (s mid : State) (who : ℕ) (asked : Command) (changed : ℕ → Book → Book) (say : Book → Reply) (view book : Book) (said answer : Reply) (next : State) → s.doubt ≡ None →
+pub change_step : (s mid : State) (who : ℕ) (asked : Command) (changed : ℕ → Book → Book) (say : Book → Reply) (view book : Book) (said answer : Reply) (next : State) →
     mid ≡ s → view ≡ seen mid who → Becomes view (λ root. changed root view) book → said ≡ say view → Allows (changing mid who book said) answer next →
     ((pick : Pick) → IsSized (seen s who) (sized pick (changed pick.root (seen s who))) → IsFair pick s who asked) →
     ((pick : Pick) → Allows (changing s who (sized pick (changed pick.root (seen s who))) (say (seen s who))) answer next → Allows (cases_of pick s who asked) answer next) →
     Step s who asked answer next
-change_step s mid who asked changed say view book said answer next certain same seen= became is allowed fair goes =
+change_step s mid who asked changed say view book said answer next same seen= became is allowed fair goes =
     let view= : view ≡ seen s who = seen= ∙ ap (λ (m : State). seen m who) same in
     let became' = subst (λ (v : Book). Becomes v (λ root. changed root v) book) view= became in
     let pick : Pick = record { pages = became'.pages; free = became'.free; root = became'.root; rows = 0; found = s.kept } in
@@ -65,10 +65,10 @@ change_step s mid who asked changed say view book said answer next certain same 
     }
 
 -- a refusal of a change after Reserved was reached
-pub late_refusal : (s mid : State) (who : ℕ) (asked : Command) (answer : Reply) (next : State) → s.doubt ≡ None → mid ≡ s → next ≡ reached mid who Reserved →
+pub late_refusal : (s mid : State) (who : ℕ) (asked : Command) (answer : Reply) (next : State) → mid ≡ s → next ≡ reached mid who Reserved →
     ((pick : Pick) → Allows (cases_of pick s who asked) answer (reached s who Reserved)) → Step s who asked answer next
-late_refusal s mid who asked answer next certain same moved goes =
-    subst (λ (n : State). Step s who asked answer n) (sym (moved ∙ ap (λ (m : State). reached m who Reserved) same)) (any_choice s who asked answer (reached s who Reserved) certain goes)
+late_refusal s mid who asked answer next same moved goes =
+    subst (λ (n : State). Step s who asked answer n) (sym (moved ∙ ap (λ (m : State). reached m who Reserved) same)) (any_choice s who asked answer (reached s who Reserved) goes)
 
 -- what a put is answered, as the row was there or not
 abbrev pub put_reply : Bool → Reply
@@ -85,8 +85,8 @@ said_step book old new who given asked answer result is said takes done wanted =
     either : (result : Result Reply AllocError) → IfOk result (λ said. Step (state_of book old) who asked said (state_of book new)) → OnErr result ((new ≡ old) × (old.stopped ≡ false)) →
         Step (state_of book old) who asked (said_of result) (state_of book new)
     either (Ok said) done wanted = done
-    either (Err e) done wanted = subst (λ (m : Machine _). Step (state_of book old) who asked reply.Memory (state_of book m)) (sym wanted.0) (memory_step (state_of book old) who asked refl wanted.1 takes)
+    either (Err e) done wanted = subst (λ (m : Machine _). Step (state_of book old) who asked reply.Memory (state_of book m)) (sym wanted.0) (memory_step (state_of book old) who asked wanted.1 takes)
 
 -- a command in which nothing is chosen
-pub plain_step : (s next : State) (who : ℕ) (given asked : Command) (answer : Reply) → s.doubt ≡ None → given ≡ asked → ((pick : Pick) → Allows (cases_of pick s who asked) answer next) → Step s who given answer next
-plain_step s next who given asked answer certain is allowed = subst (λ (a : Command). Step s who a answer next) (sym is) (any_choice s who asked answer next certain allowed)
+pub plain_step : (s next : State) (who : ℕ) (given asked : Command) (answer : Reply) → given ≡ asked → ((pick : Pick) → Allows (cases_of pick s who asked) answer next) → Step s who given answer next
+plain_step s next who given asked answer is allowed = subst (λ (a : Command). Step s who a answer next) (sym is) (any_choice s who asked answer next allowed)

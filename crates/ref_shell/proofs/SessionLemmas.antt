@@ -44,7 +44,7 @@ run_begins book input text now answer opens is text_is = record {
   read = [];
   are = tt;
   answers = answer ∷ [];
-  run = (opened book, subst (λ (r : Reply). Answers (closed book) (said 1 command.Reopen) r (opened book)) (sym opens) (reopen_step (closed book) 1 refl), is);
+  run = (opened book, subst (λ (r : Reply). Answers (closed book) (said 1 command.Reopen) r (opened book)) (sym opens) (reopen_step (closed book) 1), is);
   text_is = text_is ∙ sym (flat_push text_of [] answer);
 }
 

@@ -14,7 +14,7 @@ pub returns-in-Some-clause-ok : goal.returns-in-Some-clause-ok
 returns-in-Some-clause-ok g c =
     let s = state_of g.S.Shelf.book c.args.self.now in
     let mid = state_of g.S.Shelf.book c.refused_reading_of.new.self in
-    any_choice s c.args.who (command.Count c.args.table.now) c.in-Some.reply mid refl (λ pick. c.in-Some.ensures.through (count_rest s c.args.who c.args.table.now.name))
+    any_choice s c.args.who (command.Count c.args.table.now) c.in-Some.reply mid (λ pick. c.in-Some.ensures.through (count_rest s c.args.who c.args.table.now.name))
 
 pub returns-clause-ok : goal.returns-clause-ok
 returns-clause-ok g c =
@@ -22,5 +22,5 @@ returns-clause-ok g c =
     let mid = state_of g.S.Shelf.book c.refused_reading_of.new.self in
     let next = state_of g.S.Shelf.book c.reach.new.self in
     let say : Book → Reply = λ book. reply.Count (map.len (table_at book c.args.table.now.name).rows) in
-    read_step s mid c.args.who (command.Count c.args.table.now) say (g.S.Shelf.book c.seen.result.now) c.count-reply.result next refl
+    read_step s mid c.args.who (command.Count c.args.table.now) say (g.S.Shelf.book c.seen.result.now) c.count-reply.result next
     (ap (state_of g.S.Shelf.book) c.in_default.ensures.goes.0) c.seen.ensures c.count-reply.ensures c.reach.ensures (λ pick done. c.in_default.ensures.through (count_rest s c.args.who c.args.table.now.name) c.count-reply.result next done)

@@ -14,7 +14,7 @@ pub returns-in-Some-clause-ok : goal.returns-in-Some-clause-ok
 returns-in-Some-clause-ok g c =
     let s = state_of g.S.Shelf.book c.args.self.now in
     let mid = state_of g.S.Shelf.book c.refused_reading_of.new.self in
-    any_choice s c.args.who (command.Get c.args.table.now c.args.rowid.now) c.in-Some.reply mid refl (λ pick. c.in-Some.ensures.through (get_rest s c.args.who c.args.table.now.name c.args.rowid.now))
+    any_choice s c.args.who (command.Get c.args.table.now c.args.rowid.now) c.in-Some.reply mid (λ pick. c.in-Some.ensures.through (get_rest s c.args.who c.args.table.now.name c.args.rowid.now))
 
 pub returns-clause-ok : goal.returns-clause-ok
 returns-clause-ok g c =
@@ -22,5 +22,5 @@ returns-clause-ok g c =
     let mid = state_of g.S.Shelf.book c.refused_reading_of.new.self in
     let next = state_of g.S.Shelf.book c.reach.new.self in
     let say : Book → Reply = λ book. row_reply c.args.rowid.now (map.get (table_at book c.args.table.now.name).rows c.args.rowid.now) in
-    read_step s mid c.args.who (command.Get c.args.table.now c.args.rowid.now) say (g.S.Shelf.book c.seen.result.now) c.in_ok-reply.reply next refl
+    read_step s mid c.args.who (command.Get c.args.table.now c.args.rowid.now) say (g.S.Shelf.book c.seen.result.now) c.in_ok-reply.reply next
     (ap (state_of g.S.Shelf.book) c.in_default.ensures.goes.0) c.seen.ensures c.in_ok-reply.ensures c.reach.ensures (λ pick done. c.in_default.ensures.through (get_rest s c.args.who c.args.table.now.name c.args.rowid.now) c.in_ok-reply.reply next done)

@@ -13,7 +13,7 @@ pub returns-in-Some-clause-ok : goal.returns-in-Some-clause-ok
 returns-in-Some-clause-ok g c =
     let s = state_of g.S.Shelf.book c.args.self.now in
     let mid = state_of g.S.Shelf.book c.refused_reading_of.new.self in
-    any_choice s c.args.who (command.Scan c.args.table.now c.args.low.now c.args.high.now) c.in-Some.reply mid refl (λ pick. c.in-Some.ensures.through (scan_rest pick s c.args.who c.args.table.now.name c.args.low.now c.args.high.now))
+    any_choice s c.args.who (command.Scan c.args.table.now c.args.low.now c.args.high.now) c.in-Some.reply mid (λ pick. c.in-Some.ensures.through (scan_rest pick s c.args.who c.args.table.now.name c.args.low.now c.args.high.now))
 
 pub returns-clause-ok : goal.returns-clause-ok
 returns-clause-ok g c =
@@ -21,5 +21,5 @@ returns-clause-ok g c =
     let mid = state_of g.S.Shelf.book c.refused_reading_of.new.self in
     let next = state_of g.S.Shelf.book c.reach.new.self in
     let say : Book → Reply = λ book. rows_reply c.args.low.now c.args.high.now (table_at book c.args.table.now.name).rows in
-    read_step s mid c.args.who (command.Scan c.args.table.now c.args.low.now c.args.high.now) say (g.S.Shelf.book c.seen.result.now) c.in_ok-reply.reply next refl
+    read_step s mid c.args.who (command.Scan c.args.table.now c.args.low.now c.args.high.now) say (g.S.Shelf.book c.seen.result.now) c.in_ok-reply.reply next
     (ap (state_of g.S.Shelf.book) c.in_default.ensures.goes.0) c.seen.ensures c.in_ok-reply.ensures c.reach.ensures (λ pick done. c.in_default.ensures.through (scan_rest pick s c.args.who c.args.table.now.name c.args.low.now c.args.high.now) c.in_ok-reply.reply next (inr (inr done)))

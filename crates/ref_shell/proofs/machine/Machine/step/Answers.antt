@@ -14,13 +14,13 @@ use Rattle.ref_shell.proofs.Parts.{said_step, plain_step}
 use Rattle.ref_shell.proofs.machine.Machine.step.Goals as goal
 
 pub returns-in-Begin-clause-allowed : goal.returns-in-Begin-clause-allowed
-returns-in-Begin-clause-allowed g c = plain_step (state_of g.S.Shelf.book c.args.self.now) (state_of g.S.Shelf.book c.begin.new.self) c.args.who c.args.command command.Begin c.begin.result refl c.in-Begin.is c.begin.ensures.allowed
+returns-in-Begin-clause-allowed g c = plain_step (state_of g.S.Shelf.book c.args.self.now) (state_of g.S.Shelf.book c.begin.new.self) c.args.who c.args.command command.Begin c.begin.result c.in-Begin.is c.begin.ensures.allowed
 
 pub returns-in-Commit-clause-allowed : goal.returns-in-Commit-clause-allowed
-returns-in-Commit-clause-allowed g c = plain_step (state_of g.S.Shelf.book c.args.self.now) (state_of g.S.Shelf.book c.commit.new.self) c.args.who c.args.command command.Commit c.commit.result refl c.in-Commit.is c.commit.ensures.allowed
+returns-in-Commit-clause-allowed g c = plain_step (state_of g.S.Shelf.book c.args.self.now) (state_of g.S.Shelf.book c.commit.new.self) c.args.who c.args.command command.Commit c.commit.result c.in-Commit.is c.commit.ensures.allowed
 
 pub returns-in-Rollback-clause-allowed : goal.returns-in-Rollback-clause-allowed
-returns-in-Rollback-clause-allowed g c = plain_step (state_of g.S.Shelf.book c.args.self.now) (state_of g.S.Shelf.book c.rollback.new.self) c.args.who c.args.command command.Rollback c.rollback.result refl c.in-Rollback.is c.rollback.ensures.allowed
+returns-in-Rollback-clause-allowed g c = plain_step (state_of g.S.Shelf.book c.args.self.now) (state_of g.S.Shelf.book c.rollback.new.self) c.args.who c.args.command command.Rollback c.rollback.result c.in-Rollback.is c.rollback.ensures.allowed
 
 pub returns-in-Create-clause-allowed : goal.returns-in-Create-clause-allowed
 returns-in-Create-clause-allowed g c =
@@ -64,4 +64,4 @@ returns-in-Reopen-clause-allowed g c =
     let s = state_of g.S.Shelf.book c.args.self.now in
     subst (λ (a : Command). Step s c.args.who a c.reopen.result (state_of g.S.Shelf.book c.reopen.new.self)) (sym c.in-Reopen.is)
     (subst (λ (r : Reply). Step s c.args.who command.Reopen r (state_of g.S.Shelf.book c.reopen.new.self)) (sym c.reopen.ensures.said)
-    (subst (λ (n : State). Step s c.args.who command.Reopen (reply.Open s.kept.counter) n) (sym c.reopen.ensures.state) (reopen_step s c.args.who refl)))
+    (subst (λ (n : State). Step s c.args.who command.Reopen (reply.Open s.kept.counter) n) (sym c.reopen.ensures.state) (reopen_step s c.args.who)))

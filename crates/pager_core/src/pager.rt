@@ -59,7 +59,12 @@ impl Pager {
     }
 
     /// Puts a page into the draft of a connection, which no other has. Refused as `PageDraft::put` is: nothing has changed.
-    pub(crate) fn put_own(&mut self, who: Owner, number: u32, bytes: &[u8]) -> Result<(), SpaceFault>
+    pub(crate) fn put_own(
+        &mut self,
+        who: Owner,
+        number: u32,
+        bytes: &[u8],
+    ) -> Result<(), SpaceFault>
         requires alone { IsAlone self.old who }
         requires there { HasPage (seen self.old who) number }
         requires one_page { length bytes.now ≡ self.old.pages.page_size }

@@ -208,7 +208,7 @@ too_large s who asked pages may =
     let pick = rooted may.root s who in
     let book = changed (seen s who) may.root asked in
     let test = tested (too_many book) (too_many (seen s who)) (length book.unnamed) (length (seen s who).unnamed) (use_of (seen s who)) (need_of (sized pick book)) (need_of book)
-        (same_most (seen s who) may.root asked) (ap length (same_unnamed (seen s who) may.root asked)) (need_sized pick book) may.passes in
+    (same_most (seen s who) may.root asked) (ap length (same_unnamed (seen s who) may.root asked)) (need_sized pick book) may.passes in
     record {
       pick = pick;
       fair = rooted_is_fair may.root s who asked may.changes;

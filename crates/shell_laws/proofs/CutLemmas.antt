@@ -49,8 +49,8 @@ larges pick s who (command.Put table rowid values) pages next l =
     let long : Bool = list_any is_long values in
     let there : Bool = has_row (seen s who) table.name rowid in
     let may = both (may_write s who) (finds s who table.name && accepts s who table.name values) (writes_of s who l.0 l.1.0 l.1.1.0)
-        (both (finds s who table.name) (accepts s who table.name values) (finds_of (is_plain (seen s who) table.name) (is_foreign (seen s who) table.name) l.1.1.1.0 l.1.1.1.1.0)
-        (both wide (not long) (not_false wide l.1.1.1.1.1.0) (goes long l.1.1.1.1.1.1.0))) in
+    (both (finds s who table.name) (accepts s who table.name values) (finds_of (is_plain (seen s who) table.name) (is_foreign (seen s who) table.name) l.1.1.1.0 l.1.1.1.1.0)
+    (both wide (not long) (not_false wide l.1.1.1.1.1.0) (goes long l.1.1.1.1.1.1.0))) in
     elim l.1.1.1.1.1.1.1 [
       | inl here ↦ (may_pass pick s who (command.Put table rowid values) pages may here.0 here.1, here.2)
       | inr rest ↦
@@ -60,7 +60,7 @@ larges pick s who (command.Put table rowid values) pages next l =
 larges pick s who (command.Del table rowid) pages next l =
     let there : Bool = has_row (seen s who) table.name rowid in
     let may = both (may_write s who) (finds s who table.name && there) (writes_of s who l.0 l.1.0 l.1.1.0)
-        (both (finds s who table.name) there (finds_of (is_plain (seen s who) table.name) (is_foreign (seen s who) table.name) l.1.1.1.0 l.1.1.1.1.0) (not_false there l.1.1.1.1.1.0)) in
+    (both (finds s who table.name) there (finds_of (is_plain (seen s who) table.name) (is_foreign (seen s who) table.name) l.1.1.1.0 l.1.1.1.1.0) (not_false there l.1.1.1.1.1.0)) in
     elim l.1.1.1.1.1.1 [ inl here ↦ (may_pass pick s who (command.Del table rowid) pages may here.0 here.1, here.2) | inr rest ↦ absurd rest.1.1.1.1 ]
 larges pick s who (command.Get table rowid) pages next l =
     let found = map.get (table_at (seen s who) table.name).rows rowid in

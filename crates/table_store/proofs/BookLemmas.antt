@@ -42,14 +42,14 @@ stands_for read page_size pages book name table is f =
 -- ---- no fault is met
 
 -- a refusal whose faults no book has
-undamaged : (old new : SpaceState) (AtFault : Fault → Type 0) (fault : SpaceFault) → IsTrue old.tells → ((f : Fault) → ¬ (AtFault f)) → SearchRefused old new AtFault fault → IsNoDamage fault
+pub undamaged : (old new : SpaceState) (AtFault : Fault → Type 0) (fault : SpaceFault) → IsTrue old.tells → ((f : Fault) → ¬ (AtFault f)) → SearchRefused old new AtFault fault → IsNoDamage fault
 undamaged old new AtFault Failed t none is = tt
 undamaged old new AtFault Memory t none is = tt
 undamaged old new AtFault (Bad page kept found) t none is = none (BadPage page) (is.1 t)
 undamaged old new AtFault (Corrupt page) t none is = none (Broken page) (is t)
 undamaged old new AtFault (Large pages) t none is = absurd is
 
-book_refused : SchemaRead → TablesRead → (old new : SpaceState) (name : Name) (AtFault : PlainTable → Fault → Type 0) (fault : TableFault) → IsTrue old.tells
+pub book_refused : SchemaRead → TablesRead → (old new : SpaceState) (name : Name) (AtFault : PlainTable → Fault → Type 0) (fault : TableFault) → IsTrue old.tells
     → ((page_size : ℕ) (book : Book) (table : PlainTable) (f : Fault) → IsFound page_size old.pages book name table → ¬ (AtFault table f))
     → ReadRefused old new name AtFault fault → OfBook old.pages (λ book. BookRefused book name fault)
 book_refused schema read old new name AtFault NoTable t none is = record {

@@ -23,6 +23,7 @@ use Rattle.tree_model.specs.Whole.{below_all}
 use Rattle.tree_model.specs.declared.ends.Fault.{Fault}
 use Rattle.tree_model.proofs.OneWitnessLemmas.{same_found}
 use Rattle.tree_search.specs.Search.{SearchRefused, IsNoDamage}
+use Rattle.tree_laws.specs.Front.{FrontKept}
 use Rattle.rowid_tree.specs.Puts.{PutsRow, MayBeLarge, IsTooLarge, IsSoundlyRefused, HasWholeTree}
 use Rattle.rowid_tree.specs.Removes.{RemovesRow, MayBeLargeWithout, IsTooLargeWithout}
 use Rattle.book_model.specs.Book.{Name, Book, table_at}
@@ -46,6 +47,7 @@ use Rattle.table_store.specs.Changed.{BookPut, PutsTooMuch, NoDamage, BookPutFai
 use Rattle.table_store.proofs.NameLemmas.{some_pages}
 use Rattle.table_store.proofs.BookLemmas.{row_clean}
 use Rattle.table_store.proofs.SizeLemmas.{size_of_record}
+use Rattle.table_store.proofs.FrontLemmas.{cookie_stays}
 
 no_Some : {A : Type 0} (a : A) → ¬ (None ≡ Some a)
 no_Some a e = cc
@@ -55,11 +57,11 @@ same_Some a b e = cc
 
 -- ---- a table that is found is one of those of the schema
 
-record IsIn (all : List Found) (table : PlainTable) : Type 0 where
-  one : Found
-  among : Contains all one
-  plain : IsPlain one.create
-  is : table ≡ plain_of one
+pub record IsIn (all : List Found) (table : PlainTable) : Type 0 where
+  pub one : Found
+  pub among : Contains all one
+  pub plain : IsPlain one.create
+  pub is : table ≡ plain_of one
 
 plain_in : (size : ℕ) (schema rows : List (List Value)) (found : List (Option Found)) → AllZip (IsTableOf size schema) rows found → AllByRecursion (λ (t : Found). IsPlain t.create) (tables_in found)
 plain_in size schema [] [] each = tt
@@ -85,7 +87,7 @@ found_in all (e ∷ es) name table each is = by (λ later. found_in all es name 
     by rest true here = subst (IsIn all) (same_Some e.1 table here) each.0
     by rest false later = rest later
 
-is_one : OneCreate → SchemaRead → (pages : Pages) (book : Book) (is : IsBookOf pages book) (name : Name) (table : PlainTable) → Finds pages name table → IsIn (tables_in is.found) table
+pub is_one : OneCreate → SchemaRead → (pages : Pages) (book : Book) (is : IsBookOf pages book) (name : Name) (table : PlainTable) → Finds pages name table → IsIn (tables_in is.found) table
 is_one create read pages book is name table f =
     let P : List (List Value) → Type 0 = λ rows. Says pages.size rows f.plain f.foreign f.taken in
     let says = subst P (read.values pages book is f.says.rows f.says.has) f.says.says in
@@ -98,7 +100,7 @@ is_one create read pages book is name table f =
     found_in all (map.entries tables) name table each (sym (ap (λ (l : List PlainTable). plain_named l name) plain_are) ∙ f.finds)
 
 -- so the pages are some, and have a book of their own
-no_pages : (pages : Pages) (name : Name) (table : PlainTable) → Finds pages name table → ¬ (pages.size ≡ 0)
+pub no_pages : (pages : Pages) (name : Name) (table : PlainTable) → Finds pages name table → ¬ (pages.size ≡ 0)
 no_pages pages name table f none =
     let says = f.says.says in
     let place : Place = record { root = table.root; columns = length table.create.columns } in
@@ -117,7 +119,7 @@ record InBook (pages : Pages) (book : Book) (is : IsBookOf pages book) (name : N
   stands : StandsFor book name one.create.name
   has_columns : columns ≡ length (table_at book one.create.name).columns
 
-stands_with : TablesRead → (page_size : ℕ) (pages : Pages) (book : Book) (name : Name) (table : PlainTable) → IsBook page_size pages book → Finds pages name table
+pub stands_with : TablesRead → (page_size : ℕ) (pages : Pages) (book : Book) (name : Name) (table : PlainTable) → IsBook page_size pages book → Finds pages name table
     → StandsFor book name table.name × (length table.create.columns ≡ length (table_at book table.name).columns)
 stands_with read page_size pages book name table is f =
     let means = read.names page_size pages book f.plain f.foreign f.taken is f.says name in
@@ -156,8 +158,8 @@ whole_tree pages book is one among =
       rooted = (whole_at pages book is one at).rooted;
     }
 
-undamaged : (pages : Pages) (root : ℕ) (fault : SpaceFault) → HasWholeTree pages root → IsSoundlyRefused pages root fault → IsNoDamage fault
-undamaged pages root fault has sound = sound.each has.roots has.before has.behind has.tree has.trunks has.whole has.rooted
+pub soundly : (pages : Pages) (root : ℕ) (fault : SpaceFault) → HasWholeTree pages root → IsSoundlyRefused pages root fault → IsNoDamage fault
+soundly pages root fault has sound = sound.each has.roots has.before has.behind has.tree has.trunks has.whole has.rooted
 
 -- ---- a row put
 
@@ -169,11 +171,11 @@ payload_is has one payload values columns few columned fit bytes is_record short
   size = size_of_record has payload values (omega (arith, fit.full, few)) fit.short bytes is_record shortest;
 }
 
-pub book_put : OneCreate → SchemaRead → TablesRead → RecordHasSize → RowPut → (old new : SpaceState) (name : Name) (rowid : ℤ) (values : List Value) (replaced : Bool) → IsTrue old.tells → Steady old new
-    → RowPutIn old new name rowid values replaced → OfBook old.pages (λ book. BookPut new book name rowid values replaced)
-book_put create schema read has put old new name rowid values replaced t steady p = record { each = by }
+pub book_put : OneCreate → SchemaRead → TablesRead → RecordHasSize → RowPut → FrontKept → (old new : SpaceState) (name : Name) (rowid : ℤ) (values : List Value) (replaced : Bool) → IsTrue old.tells → Steady old new
+    → RowPutIn old new name rowid values replaced → OfBook old.pages (λ book. BookPut old new book name rowid values replaced)
+book_put create schema read has put kept old new name rowid values replaced t steady p = record { each = by }
   where
-    by : (page_size : ℕ) (book : Book) → IsBook page_size old.pages book → BookPut new book name rowid values replaced
+    by : (page_size : ℕ) (book : Book) → IsBook page_size old.pages book → BookPut old new book name rowid values replaced
     by page_size book (inl none) = absurd (no_pages old.pages name (p.found t).table (p.found t).finds none.0)
     by page_size book (inr is) =
         let it = in_book create schema read old.pages book is name p.root p.columns (p.found t) in
@@ -181,8 +183,9 @@ book_put create schema read has put old new name rowid values replaced t steady 
         let W : Pages → ℕ → Type 0 = λ pages root. PutsRow pages new.pages root rowid p.payload replaced in
         let puts : PutsRow old.pages new.pages it.one.root rowid p.payload replaced = subst (W old.pages) it.rooted (subst (λ (pages : Pages). W pages p.root) same (p.puts t)) in
         let H : Pages → ℕ → Type 0 = λ pages root. HasWholeTree pages root in
-        let tree : HasWholeTree p.met.pages p.root =
-        subst (λ (pages : Pages). H pages p.root) (sym same) (subst (H old.pages) (sym it.rooted) (whole_tree old.pages book is it.one it.among)) in
+        let there = whole_tree old.pages book is it.one it.among in
+        let tree : HasWholeTree p.met.pages p.root = subst (λ (pages : Pages). H pages p.root) (sym same) (subst (H old.pages) (sym it.rooted) there) in
+        let done = puts.each there.roots there.before there.behind there.tree there.trunks there.whole there.rooted in
         let law = put new.page_size old.pages new.pages book is it.one rowid values p.payload replaced it.among
         (payload_is has it.one p.payload values p.columns it.few it.columned p.fit p.bytes p.is_record p.shortest) (steady.sizes.each (steady.told ∙ t)) puts in
         record {
@@ -191,13 +194,14 @@ book_put create schema read has put old new name rowid values replaced t steady 
           full = p.fit.full ∙ it.has_columns;
           short = p.fit.short;
           becomes = law.0;
+          cookie = cookie_stays kept old.pages new.pages is.whole.whole.header.there done.no_fewer done.front;
           told = law.1;
           change = p.changes t tree;
         }
 
 -- ---- a row not put
 
-no_damage : (Past : ℕ → Type 0) (old new : SpaceState) (A : Fault → Type 0) (fault : SpaceFault) → SearchRefused old new A fault → IsNoDamage fault → NoDamage Past fault
+pub no_damage : (Past : ℕ → Type 0) (old new : SpaceState) (A : Fault → Type 0) (fault : SpaceFault) → SearchRefused old new A fault → IsNoDamage fault → NoDamage Past fault
 no_damage Past old new A Failed refused none = tt
 no_damage Past old new A Memory refused none = tt
 no_damage Past old new A (Bad page kept found) refused none = none
@@ -243,7 +247,7 @@ put_clean create schema read rows has large old new name rowid values (Space fau
         let H : Pages → ℕ → Type 0 = λ pages root. HasWholeTree pages root in
         let tree : HasWholeTree p.met.pages p.root =
         subst (λ (pages : Pages). H pages p.root) (sym same) (subst (H old.pages) (sym it.rooted) (whole_tree old.pages book is it.one it.among)) in
-        past_put (PutsTooMuch old.page_size book name rowid values) p.met.pages p.root rowid p.payload old.page_size fault (undamaged p.met.pages p.root fault tree (p.clean t)) (p.large t)
+        past_put (PutsTooMuch old.page_size book name rowid values) p.met.pages p.root rowid p.payload old.page_size fault (soundly p.met.pages p.root fault tree (p.clean t)) (p.large t)
         (λ n much.
         let L : Pages → ℕ → Type 0 = λ pages root. IsTooLarge pages root rowid p.payload old.page_size n in
         let there : IsTooLarge old.pages it.one.root rowid p.payload old.page_size n = subst (L old.pages) it.rooted (subst (λ (pages : Pages). L pages p.root) same much) in
@@ -260,11 +264,11 @@ put_clean create schema read rows has large old new name rowid values (Space fau
 
 -- ---- a row taken out
 
-pub book_removed : OneCreate → SchemaRead → TablesRead → RowRemoved → (old new : SpaceState) (name : Name) (rowid : ℤ) (removed : Bool) → IsTrue old.tells → Steady old new
-    → RowTakenFrom old new name rowid removed → OfBook old.pages (λ book. BookRemoved new book name rowid removed)
-book_removed create schema read takes old new name rowid removed t steady p = record { each = by }
+pub book_removed : OneCreate → SchemaRead → TablesRead → RowRemoved → FrontKept → (old new : SpaceState) (name : Name) (rowid : ℤ) (removed : Bool) → IsTrue old.tells → Steady old new
+    → RowTakenFrom old new name rowid removed → OfBook old.pages (λ book. BookRemoved old new book name rowid removed)
+book_removed create schema read takes kept old new name rowid removed t steady p = record { each = by }
   where
-    by : (page_size : ℕ) (book : Book) → IsBook page_size old.pages book → BookRemoved new book name rowid removed
+    by : (page_size : ℕ) (book : Book) → IsBook page_size old.pages book → BookRemoved old new book name rowid removed
     by page_size book (inl none) = absurd (no_pages old.pages name (p.found t).table (p.found t).finds none.0)
     by page_size book (inr is) =
         let it = in_book create schema read old.pages book is name p.root p.columns (p.found t) in
@@ -272,12 +276,20 @@ book_removed create schema read takes old new name rowid removed t steady p = re
         let W : Pages → ℕ → Type 0 = λ pages root. RemovesRow pages new.pages root rowid removed in
         let removes : RemovesRow old.pages new.pages it.one.root rowid removed = subst (W old.pages) it.rooted (subst (λ (pages : Pages). W pages p.root) same (p.removes t)) in
         let H : Pages → ℕ → Type 0 = λ pages root. HasWholeTree pages root in
-        let tree : HasWholeTree p.met.pages p.root =
-        subst (λ (pages : Pages). H pages p.root) (sym same) (subst (H old.pages) (sym it.rooted) (whole_tree old.pages book is it.one it.among)) in
+        let there = whole_tree old.pages book is it.one it.among in
+        let tree : HasWholeTree p.met.pages p.root = subst (λ (pages : Pages). H pages p.root) (sym same) (subst (H old.pages) (sym it.rooted) there) in
+        let done = removes.each there.roots there.before there.behind there.tree there.trunks there.whole there.rooted in
         let law = takes new.page_size old.pages new.pages book is it.one rowid removed it.among (steady.sizes.each (steady.told ∙ t)) removes in
-        record { own = it.one.create.name; stands = it.stands; becomes = law.0; told = law.1; change = λ was. p.changes was t tree }
+        record {
+          own = it.one.create.name;
+          stands = it.stands;
+          becomes = law.0;
+          cookie = cookie_stays kept old.pages new.pages is.whole.whole.header.there done.no_fewer done.front;
+          told = law.1;
+          change = λ was. p.changes was t tree;
+        }
 
-past_removal : (Past : ℕ → Type 0) (pages : Pages) (root : ℕ) (rowid : ℤ) (page_size : ℕ) (fault : SpaceFault) → IsNoDamage fault → MayBeLargeWithout pages root rowid page_size fault
+pub past_removal : (Past : ℕ → Type 0) (pages : Pages) (root : ℕ) (rowid : ℤ) (page_size : ℕ) (fault : SpaceFault) → IsNoDamage fault → MayBeLargeWithout pages root rowid page_size fault
     → ((n : ℕ) → IsTooLargeWithout pages root rowid page_size n → Past n) → NoDamage Past fault
 past_removal Past pages root rowid page_size Failed none large more = tt
 past_removal Past pages root rowid page_size Memory none large more = tt
@@ -306,7 +318,7 @@ remove_clean create schema read rows large old new name rowid (Space fault) t (i
         let H : Pages → ℕ → Type 0 = λ pages root. HasWholeTree pages root in
         let tree : HasWholeTree p.met.pages p.root =
         subst (λ (pages : Pages). H pages p.root) (sym same) (subst (H old.pages) (sym it.rooted) (whole_tree old.pages book is it.one it.among)) in
-        past_removal (RemovesTooMuch old.page_size book name rowid) p.met.pages p.root rowid old.page_size fault (undamaged p.met.pages p.root fault tree (p.clean t)) (p.large t)
+        past_removal (RemovesTooMuch old.page_size book name rowid) p.met.pages p.root rowid old.page_size fault (soundly p.met.pages p.root fault tree (p.clean t)) (p.large t)
         (λ n much.
         let L : Pages → ℕ → Type 0 = λ pages root. IsTooLargeWithout pages root rowid old.page_size n in
         let there : IsTooLargeWithout old.pages it.one.root rowid old.page_size n = subst (L old.pages) it.rooted (subst (λ (pages : Pages). L pages p.root) same much) in

@@ -4,4 +4,10 @@ pub mod BookLemmas
 pub mod MoveLemmas
 pub mod WriteLemmas
 pub mod SizeLemmas
+pub mod FrontLemmas
+pub mod CookieLemmas
 pub mod ChangedLemmas
+pub mod ListLemmas
+pub mod DropEntryLemmas
+pub mod DropStepLemmas
+pub mod DropBookLemmas

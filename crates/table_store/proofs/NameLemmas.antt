@@ -73,7 +73,7 @@ unlike_all name (t ∷ more) none = (
     by key v at false e = none key v (ap (λ b. cond b (Some (plain_of t)) (find (slice_cmp nat_cmp) key (named more))) e ∙ at)
 
 -- where none is found, none of those that the rows make has the name
-none_alike : (size : ℕ) (rows : List (List Value)) (plain : List PlainTable) (name : Name) → (are : ArePlainTables size rows plain) → plain_named plain name ≡ None
+pub none_alike : (size : ℕ) (rows : List (List Value)) (plain : List PlainTable) (name : Name) → (are : ArePlainTables size rows plain) → plain_named plain name ≡ None
     → AllByRecursion (λ t. str_eq_ignore_ascii_case name t.create.name ≡ false) (tables_in are.found)
 none_alike size rows plain name are none = unlike_all name (tables_in are.found) (λ key v at. by key v at (str_eq_ignore_ascii_case name key) refl)
   where
@@ -106,7 +106,7 @@ some_pages size rows plain name place are is =
 -- ---- the others
 
 -- a name is among names where it is among them once each
-unlike_other : (name x n : Name) → str_eq_ignore_ascii_case name x ≡ false → str_eq_ignore_ascii_case name n ≡ true → not (str_eq_ignore_ascii_case x n) ≡ true
+pub unlike_other : (name x n : Name) → str_eq_ignore_ascii_case name x ≡ false → str_eq_ignore_ascii_case name n ≡ true → not (str_eq_ignore_ascii_case x n) ≡ true
 unlike_other name x n unlike alike = by (str_eq_ignore_ascii_case x n) refl
   where
     by : (b : Bool) → str_eq_ignore_ascii_case x n ≡ b → not b ≡ true

@@ -10,6 +10,7 @@ use Rattle.book_model.specs.Book.{Name, Book, table_at, is_plain, is_foreign, wi
 use Rattle.book_changes.specs.Changes.{Becomes}
 use Rattle.table_store.specs.Books.{StandsFor}
 use Rattle.table_store.specs.Writes.{is_long}
+use Rattle.table_store.specs.Cookie.{cookie_of}
 use Rattle.table_store.specs.declared.fault.TableFault.{TableFault}
 use Rattle.table_store.specs.declared.fault.TableFault.TheVariants.{NoTable, Foreign, Exists, Columns, TooLong, Space}
 
@@ -20,13 +21,14 @@ pub record IsPast (page_size : ℕ) (old after : Book) (pages : ℕ) : Type 0 wh
   pub least : (pages - 1) * page_size ≤ greatest_length
   pub within : pages ≤ length old.unnamed + use_of old + need_of after
 
--- a row is put into the table that the name stands for, and the answer tells whether it had one of this rowid
-pub record BookPut (new : SpaceState) (book : Book) (name : Name) (rowid : ℤ) (values : List Value) (replaced : Bool) : Type 0 where
+-- a row is put into the table that the name stands for, and the answer tells whether it had one of this rowid; the schema cookie stays
+pub record BookPut (old new : SpaceState) (book : Book) (name : Name) (rowid : ℤ) (values : List Value) (replaced : Bool) : Type 0 where
   pub own : Name
   pub stands : StandsFor book name own
   pub full : length values ≡ length (table_at book own).columns
   pub short : list_any is_long values ≡ false
   pub becomes : Becomes book new.pages (with_row book own rowid values)
+  pub cookie : cookie_of new.pages ≡ cookie_of old.pages
   pub told : replaced ≡ has_row book own rowid
   pub change : IsTrue new.changed
 
@@ -65,11 +67,12 @@ BookPutFails page_size book name rowid values Columns = OtherColumns book name v
 BookPutFails page_size book name rowid values TooLong = LongValue book name values
 BookPutFails page_size book name rowid values (Space fault) = NoDamage (PutsTooMuch page_size book name rowid values) fault
 
--- a row is taken out of the table that the name stands for; there may be none
-pub record BookRemoved (new : SpaceState) (book : Book) (name : Name) (rowid : ℤ) (removed : Bool) : Type 0 where
+-- a row is taken out of the table that the name stands for; there may be none; the schema cookie stays
+pub record BookRemoved (old new : SpaceState) (book : Book) (name : Name) (rowid : ℤ) (removed : Bool) : Type 0 where
   pub own : Name
   pub stands : StandsFor book name own
   pub becomes : Becomes book new.pages (without_row book own rowid)
+  pub cookie : cookie_of new.pages ≡ cookie_of old.pages
   pub told : removed ≡ has_row book own rowid
   pub change : removed ≡ true → IsTrue new.changed
 

@@ -3,3 +3,8 @@ pub mod Books
 pub mod Steps
 pub mod Writes
 pub mod Changed
+pub mod Lists
+pub mod ListSteps
+pub mod Cookie
+pub mod Dropped
+pub mod DropSteps

@@ -6,14 +6,19 @@
 //! After sqlite.org, "Database File Format", section 2.6, "Storage Of The SQL Database Schema".
 #![tactic(auto)]
 
+mod cookie;
+mod drops;
 mod fault;
 mod fill;
+mod listing;
 mod reads;
 mod schema;
 mod writes;
 
 pub use db_format::{Create, PlainTable, Record, SpaceFault, TableEntry, TableList, Value};
+pub use drops::drop_table;
 pub use fault::TableFault;
+pub use listing::list;
 pub use page_pool::PageSpace;
 pub use reads::{count, get, scan_next};
 pub use writes::{put, remove};

@@ -1,6 +1,6 @@
 //! The schema of a database, and the table that a name stands for.
 
-ghost use Rattle.std.specs.Prelude.{◌≡◌, ◌↔◌, ◌≤◌, List, map, codes, IsTrue, IfOk, IfErr, IfSome, IfNone, None};
+ghost use Rattle.std.specs.Prelude.{◌≡◌, ◌↔◌, ◌≤◌, List, length, map, codes, IsTrue, IfOk, IfErr, IfSome, IfNone, None};
 ghost use Rattle.std.specs.List.{AllByRecursion};
 ghost use Rattle.std.specs.Str.{str_eq_ignore_ascii_case};
 ghost use Rattle.page_pool.specs.Space.{IsReady, Steady, Stays};
@@ -18,7 +18,7 @@ use std::alloc::{AllocError, Global};
 use table_rows::walk;
 
 /// The root of the tree that keeps the schema.
-const SCHEMA_ROOT: u32 = 1;
+pub(crate) const SCHEMA_ROOT: u32 = 1;
 
 /// How many columns the schema has: type, name, table, root and text.
 const SCHEMA_COLUMNS: usize = 5;
@@ -37,6 +37,7 @@ pub(crate) fn read_schema<S: PageSpace>(alloc: Global, space: &mut S) -> Result<
     requires ready { IsReady (S.state space.old) }
     ensures steady { Steady (S.state space.old) (S.state space.new) }
     ensures stays { Stays (S.state space.old) (S.state space.new) }
+    ensures even { IfOk result (λ schema. length schema.rowids.items ≡ length schema.rows.items) }
     ensures found { IsTrue (S.state space.old).tells → IfOk result (λ schema. IsSchema (S.state space.old).pages schema.rowids.items schema.rows.items) }
     ensures refused { IfErr result (SearchRefused (S.state space.old) (S.state space.new) (SchemaMeets (S.state space.old).pages)) }
 {
@@ -138,7 +139,7 @@ fn place_of(tables: &[PlainTable], name: &[u8]) -> Option<Place>
 }
 
 /// Whether no row of the schema is that of a table of this name, in letters of either case.
-fn none_named(rows: &[Record], name: &[u8]) -> bool
+pub(crate) fn none_named(rows: &[Record], name: &[u8]) -> bool
     ensures { IsTrue result ↔ AllByRecursion (λ row. ¬ (NamesTable row name.now)) rows.now }
 {
     rows.iter()
@@ -158,14 +159,14 @@ fn names_table(values: &[Value], name: &[u8]) -> bool
 }
 
 /// Whether a row of this kind is that of a table.
-fn is_table(kind: &[u8]) -> bool
+pub(crate) fn is_table(kind: &[u8]) -> bool
     ensures { IsTrue result ↔ kind.now ≡ codes "table" }
 {
     kind == b"table".as_slice()
 }
 
 /// Whether two names are one but for the case of ASCII letters.
-fn is_alike(one: &[u8], other: &[u8]) -> bool
+pub(crate) fn is_alike(one: &[u8], other: &[u8]) -> bool
     ensures { result ≡ str_eq_ignore_ascii_case one.now other.now }
 {
     one.eq_ignore_ascii_case(other)

@@ -20,6 +20,7 @@ use db_format::{Value, one_create, write_record};
 use page_pool::PageSpace;
 use std::alloc::Global;
 use table_rows::find_record;
+use tree_laws::front_kept;
 
 /// The most bytes of a text or a blob.
 const LONGEST: usize = 65536;
@@ -39,7 +40,7 @@ pub fn put<S: PageSpace>(
     requires writable { IsWritable (S.state space.old) }
     ensures steady { Steady (S.state space.old) (S.state space.new) }
     ensures done { IfOk result (RowPutIn (S.state space.old) (S.state space.new) name.now rowid values.now) }
-    ensures whole { IsTrue (S.state space.old).tells → IfOk result (λ replaced. OfBook (S.state space.old).pages (λ book. BookPut (S.state space.new) book name.now rowid values.now replaced)) }
+    ensures whole { IsTrue (S.state space.old).tells → IfOk result (λ replaced. OfBook (S.state space.old).pages (λ book. BookPut (S.state space.old) (S.state space.new) book name.now rowid values.now replaced)) }
     ensures refused { IfErr result (PutFails (S.state space.old) (S.state space.new) name.now rowid values.now) }
     ensures clean { IsTrue (S.state space.old).tells → IfErr result (λ fault. OfBook (S.state space.old).pages (λ book. BookPutFails (S.state space.old).page_size book name.now rowid values.now fault)) }
     ensures noted { NotesChange (S.state space.old) (S.state space.new) }
@@ -51,6 +52,7 @@ pub fn put<S: PageSpace>(
     record_has_size();
     row_put();
     large_put();
+    front_kept();
     put_values(alloc, space, name, rowid, values)
 }
 
@@ -138,7 +140,7 @@ pub fn remove<S: PageSpace>(
     requires writable { IsWritable (S.state space.old) }
     ensures steady { Steady (S.state space.old) (S.state space.new) }
     ensures done { IfOk result (RowTakenFrom (S.state space.old) (S.state space.new) name.now rowid) }
-    ensures whole { IsTrue (S.state space.old).tells → IfOk result (λ removed. OfBook (S.state space.old).pages (λ book. BookRemoved (S.state space.new) book name.now rowid removed)) }
+    ensures whole { IsTrue (S.state space.old).tells → IfOk result (λ removed. OfBook (S.state space.old).pages (λ book. BookRemoved (S.state space.old) (S.state space.new) book name.now rowid removed)) }
     ensures refused { IfErr result (RemoveFails (S.state space.old) (S.state space.new) name.now rowid) }
     ensures clean { IsTrue (S.state space.old).tells → IfErr result (λ fault. OfBook (S.state space.old).pages (λ book. BookRemoveFails (S.state space.old).page_size book name.now rowid fault)) }
     ensures noted { NotesChange (S.state space.old) (S.state space.new) }
@@ -149,6 +151,7 @@ pub fn remove<S: PageSpace>(
     row_read();
     row_removed();
     large_removal();
+    front_kept();
     remove_row(alloc, space, name, rowid)
 }
 

@@ -16,8 +16,8 @@ returns-clause-whole g c = λ t.
     let key_fits : SFits w64 c.args.rowid = c.ranges.rowid in
     let done : IfOk c.put_values.result (RowPutIn old new c.args.name.now c.args.rowid c.args.values.now) = simp to_z-of_z at c.put_values.ensures.done in
     IfOk-weaker c.put_values.result (RowPutIn old new c.args.name.now c.args.rowid c.args.values.now)
-    (λ replaced. OfBook old.pages (λ book. BookPut new book c.args.name.now c.args.rowid c.args.values.now replaced))
-    (λ replaced put. book_put c.one_create.ensures c.schema_read.ensures c.tables_read.ensures c.record_has_size.ensures c.row_put.ensures old new c.args.name.now c.args.rowid c.args.values.now
+    (λ replaced. OfBook old.pages (λ book. BookPut old new book c.args.name.now c.args.rowid c.args.values.now replaced))
+    (λ replaced put. book_put c.one_create.ensures c.schema_read.ensures c.tables_read.ensures c.record_has_size.ensures c.row_put.ensures c.front_kept.ensures old new c.args.name.now c.args.rowid c.args.values.now
     replaced t c.put_values.ensures.steady put) done
 
 pub returns-clause-clean : goal.returns-clause-clean

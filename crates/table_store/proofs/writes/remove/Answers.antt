@@ -14,8 +14,8 @@ returns-clause-whole g c = λ t.
     let new = state c.remove_row.new.space in
     let key_fits : SFits w64 c.args.rowid = c.ranges.rowid in
     let done : IfOk c.remove_row.result (RowTakenFrom old new c.args.name.now c.args.rowid) = simp to_z-of_z at c.remove_row.ensures.done in
-    IfOk-weaker c.remove_row.result (RowTakenFrom old new c.args.name.now c.args.rowid) (λ removed. OfBook old.pages (λ book. BookRemoved new book c.args.name.now c.args.rowid removed))
-    (λ removed taken. book_removed c.one_create.ensures c.schema_read.ensures c.tables_read.ensures c.row_removed.ensures old new c.args.name.now c.args.rowid removed t
+    IfOk-weaker c.remove_row.result (RowTakenFrom old new c.args.name.now c.args.rowid) (λ removed. OfBook old.pages (λ book. BookRemoved old new book c.args.name.now c.args.rowid removed))
+    (λ removed taken. book_removed c.one_create.ensures c.schema_read.ensures c.tables_read.ensures c.row_removed.ensures c.front_kept.ensures old new c.args.name.now c.args.rowid removed t
     c.remove_row.ensures.steady taken) done
 
 pub returns-clause-clean : goal.returns-clause-clean

@@ -1,11 +1,13 @@
 #!/usr/bin/env python3
-"""Reads databases that sqlite3 made by the names of their tables, and compares with what was put into them.
+"""Reads and changes databases that sqlite3 made by the names of their tables, and compares with what was put into them.
 
 Usage: bench/tables_against_sqlite.py. Needs `sqlite3` and `rt`; without sqlite3 it says so and does nothing. sqlite3 makes databases of
 several page sizes, with reserved bytes or none: tables of names and columns alone, with rows of every kind of value, rows on many
 pages, rows that were deleted, and a column that was added later; tables with an index, a trigger, types or upper-case names; views, tables
 WITHOUT ROWID and with AUTOINCREMENT; and one schema of hundreds of rows. Each plain table is counted and scanned, and single rows are
-asked for; the other names have to be refused by their cause. The program is a crate that is made in a folder of its own, over copies of
+asked for; the other names have to be refused by their cause. Then tables are listed and dropped, rows put and taken out, all is read again,
+and sqlite3 checks the pages that are left and prints the same rows; the other tables, the index, the trigger and the view have to be as they
+were. The program is a crate that is made in a folder of its own, over copies of
 table_store, shell_lang and of what they stand on, and is run there by `rt try`; the repository stays as it is.
 """
 import os
@@ -16,7 +18,7 @@ import subprocess
 import sys
 import tempfile
 
-from sqlite_files import program
+from sqlite_files import program, sqlite
 
 # the size of a page, and how much of it is reserved
 SPACES = [(512, 0), (512, 32), (1024, 8), (4096, 0), (8192, 8), (65536, 0)]
@@ -29,7 +31,7 @@ use shell_lang::{Command, Db, ErrorWord, Reply, RowList, ScanEnd, read_command, 
 use std::alloc::{AllocError, Global};
 use std::io::Read;
 use std::process::ExitCode;
-use table_store::{PageSpace, SpaceFault, TableFault, count, get, scan_next};
+use table_store::{PageSpace, SpaceFault, TableFault, count, drop_table, get, list, put, remove, scan_next};
 use page_pool::MemSpace;
 
 /// All bytes of standard input.
@@ -97,6 +99,19 @@ fn answer(alloc: Global, space: &mut MemSpace, command: Command) -> Result<Reply
         },
         Command::Scan { table, low, high } => scan(alloc, space, table.name.as_slice(), low, high),
         Command::Count { table } => Ok(Reply::Count { rows: count(alloc, space, table.name.as_slice())? }),
+        Command::Tables => Ok(Reply::TableLines { tables: list(alloc, space)? }),
+        Command::Drop { table } => {
+            drop_table(alloc, space, table.name.as_slice())?;
+            Ok(Reply::Done)
+        }
+        Command::Put { table, rowid, values } => match put(alloc, space, table.name.as_slice(), rowid, values.as_slice())? {
+            true => Ok(Reply::Replaced),
+            false => Ok(Reply::New),
+        },
+        Command::Del { table, rowid } => match remove(alloc, space, table.name.as_slice(), rowid)? {
+            true => Ok(Reply::Done),
+            false => Ok(Reply::Nothing),
+        },
         _ => Ok(Reply::Stopped),
     }
 }
@@ -146,6 +161,29 @@ fn print_bytes<R: AllocGlobal + Print>(rt: &R, bytes: &[u8]) -> Result<(), Table
     Ok(())
 }
 
+/// Prints each page in hexadecimal; a byte that stands four times or more is written once, with how often behind it.
+fn print_pages<R: AllocGlobal + Print>(rt: &R, space: &mut MemSpace) -> Result<(), TableFault> {
+    let mut page = vec![in rt.alloc(); 0u8; space.page_size() as usize]?;
+    for number in 1..space.size() + 1 {
+        space.get(number, &mut page)?;
+        let mut line = String::new(rt.alloc());
+        let mut at = 0usize;
+        for _ in 0..page.len() {
+            if at >= page.len() {
+                break;
+            }
+            let byte = page[at];
+            let run = page[at..].iter().take_while(|other| **other == byte).count().max(1);
+            let shown = if run < 4 { 1 } else { run };
+            let text = if shown == 1 { format!(in rt.alloc(); "{byte:02x}")? } else { format!(in rt.alloc(); "[{byte:02x}*{shown}]")? };
+            line.push_str(text.as_str())?;
+            at = at.saturating_add(shown);
+        }
+        let _said = println!(rt; "{line}");
+    }
+    Ok(())
+}
+
 fn main(rt: HostRuntime) -> ExitCode {
     let mut input = rt.stdin();
     let Ok(all) = all_of(rt.alloc(), &mut input) else {
@@ -160,7 +198,7 @@ fn main(rt: HostRuntime) -> ExitCode {
     let Ok(mut space) = space_of(rt.alloc(), page_size, reserved, &all[12..end]) else {
         return ExitCode::FAILURE;
     };
-    if answer_all(&rt, &mut space, &all[end..]).is_err() {
+    if answer_all(&rt, &mut space, &all[end..]).is_err() || print_pages(&rt, &mut space).is_err() {
         return ExitCode::FAILURE;
     }
     ExitCode::SUCCESS
@@ -284,6 +322,89 @@ def reads(tables):
         yield f"count {name}", ["error no-table"]
 
 
+def tables_line(tables):
+    """The lines of a list of all tables."""
+    lines = {name: " ".join(["table", name] + columns) for name, (columns, _) in tables.items()}
+    lines |= {name: f"foreign {name}" for name in ["indexed", "watched", "typed", "numbered", "Mixed", "without", "sqlite_sequence"]}
+    lines["spaced name"] = "foreign spaced%20name"
+    return [lines[name] for name in sorted(lines)] + [f"end {len(lines)}"]
+
+
+def changes(rng, usable, tables):
+    """Commands that change tables, each with the line that is due; the tables change with them."""
+    for name in ["indexed", "watched", "mixed", "without", "numbered"]:
+        yield f"put {name} 1 i:1", ["error foreign"]
+        yield f"drop {name}", ["error foreign"]
+    for name in ["seen", "by_a", "nothing"]:
+        yield f"drop {name}", ["error no-table"]
+    yield "put t 1 i:1", ["error columns"]
+    yield "drop z_9", ["ok"]
+    del tables["z_9"]
+    yield "tables", tables_line(tables)
+    rows = 120 if usable < 4000 else 40 if usable < 40_000 else 8
+    for at in range(rows):
+        name = rng.choice(["t", "empty"])
+        columns, there = tables[name]
+        rowid = rng.choice([rng.randrange(-300, 600), 2**63 - 1, -(2**63)] + list(there)[:20])
+        if rng.randrange(3) == 0:
+            yield f"del {name} {rowid}", ["ok" if there.pop(rowid, None) is not None else "none"]
+            continue
+        values = [some_value(rng, min(usable, 3000), written=True) for _ in columns]
+        yield " ".join(["put", name, str(rowid)] + list(map(spelled, values))), ["replaced" if rowid in there else "new"]
+        there[rowid] = values
+    yield "drop wide", ["ok"]
+    del tables["wide"]
+    yield "tables", tables_line(tables)
+
+
+def bytes_of(line):
+    """The bytes of a page as the program prints it."""
+    page = b""
+    for at, piece in enumerate(line.replace("]", "[").split("[")):
+        if at % 2 == 0:
+            page += bytes.fromhex(piece)
+        else:
+            byte, count = piece.split("*")
+            page += bytes([int(byte, 16)]) * int(count)
+    return page
+
+
+UNHARMED = """
+SELECT * FROM indexed; SELECT * FROM watched; SELECT * FROM typed; SELECT * FROM numbered; SELECT * FROM Mixed;
+SELECT * FROM "spaced name"; SELECT * FROM without; SELECT * FROM seen; SELECT b FROM indexed INDEXED BY by_a WHERE a = 2;
+SELECT * FROM sqlite_sequence; SELECT type, name, tbl_name, sql FROM sqlite_master
+WHERE tbl_name IN ('indexed', 'watched', 'typed', 'numbered', 'Mixed', 'spaced name', 'without', 'seen') ORDER BY name;
+"""
+
+
+def shown_by_sqlite(value):
+    """A value as its type and the hexadecimal digits of its text."""
+    kind = {type(None): "null", int: "integer", float: "real", str: "text", bytes: "blob"}[type(value)]
+    text = b"" if value is None else value if isinstance(value, bytes) else (value if isinstance(value, str) else repr(value)).encode()
+    return f"{kind}:{text.hex().upper()}"
+
+
+def check_left(path, before, tables, data):
+    """sqlite3 finds nothing wrong in the pages that are left, and prints the rows that are due."""
+    # a pager would raise the counter and write the size
+    first = bytearray(data)
+    counter = struct.unpack_from(">I", first, 24)[0] + 1
+    for place, number in [(24, counter), (28, len(data) // before[1]), (92, counter)]:
+        struct.pack_into(">I", first, place, number)
+    with open(path, "wb") as file:
+        file.write(first)
+    if (said := sqlite(path, "PRAGMA integrity_check;")) != "ok\n":
+        raise SystemExit(f"{path}: {said}")
+    if sqlite(path, UNHARMED) != before[0]:
+        raise SystemExit(f"{path}: a table that is not plain, an index, a trigger or a view is another")
+    for name, (columns, rows) in tables.items():
+        cells = " || ' ' || ".join(f"typeof({column}) || ':' || hex(CAST({column} AS BLOB))" for column in columns)
+        printed = sqlite(path, f"SELECT rowid || ' ' || {cells} FROM {name} ORDER BY rowid;").splitlines()
+        due = [" ".join([str(rowid)] + list(map(shown_by_sqlite, rows[rowid]))) for rowid in sorted(rows)]
+        if printed != due:
+            raise SystemExit(f"{path}: {name}: {[pair for pair in zip(printed, due) if pair[0] != pair[1]][:1]}")
+
+
 def compare(made, folder, rng, size, reserved, more):
     path = os.path.join(folder, f"made_{size}_{reserved}_{more}.db")
     tables = make(path, rng, size, reserved, more)
@@ -291,6 +412,10 @@ def compare(made, folder, rng, size, reserved, more):
         data = file.read()
     # each step of a scan goes over the schema anew, so a large one is asked for counts and single rows alone
     asked = [pair for pair in reads(tables) if not more or not pair[0].startswith("scan")]
+    if not more:
+        asked += list(changes(rng, size - reserved, tables))
+        asked += list(reads(tables))
+    before = (sqlite(path, UNHARMED), size)
     text = "\n".join(line for line, _ in asked) + "\n"
     given = struct.pack(">III", size, reserved, len(data)) + data + text.encode()
     done = subprocess.run(["rt", "try", "--steps", "1", "--seconds", "900"], cwd=made, input=given, capture_output=True)
@@ -299,9 +424,11 @@ def compare(made, folder, rng, size, reserved, more):
     for at, line in enumerate(due):
         if at >= len(printed) or printed[at] != line:
             raise SystemExit(f"{size} {reserved}: line {at}: {printed[at:at + 1]} where {line[:200]!r} is due; {done.stderr.decode()[-800:]}")
-    if len(printed) != len(due):
-        raise SystemExit(f"{size} {reserved}: {len(printed)} lines where {len(due)} are due")
-    print(f"{size} bytes a page, {reserved} reserved, {len(tables)} plain tables: {len(asked)} commands, {len(due)} lines agree")
+    left = b"".join(map(bytes_of, printed[len(due):]))
+    if len(left) % size != 0 or len(left) < len(data):
+        raise SystemExit(f"{size} {reserved}: {len(left)} bytes of pages are left")
+    check_left(path + ".left", before, tables, left)
+    print(f"{size} bytes a page, {reserved} reserved, {len(tables)} plain tables: {len(asked)} commands, {len(due)} lines agree, {len(left) // size} pages left")
 
 
 def main():

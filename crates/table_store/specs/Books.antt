@@ -5,6 +5,7 @@ use Rattle.std.specs.FinMap as map
 use Rattle.db_format.specs.Create.{IsIdentifier}
 use Rattle.db_format.specs.declared.value.Value.{Value}
 use Rattle.page_list.specs.Pages.{Pages}
+use Rattle.page_pool.specs.Space.{SpaceState}
 use Rattle.tree_search.specs.Search.{IsNoDamage}
 use Rattle.book_model.specs.Book.{Name, Book, table_at, is_plain, is_foreign}
 use Rattle.book_model.specs.Pages.{IsBook}
@@ -52,3 +53,7 @@ BookRefused book name (Space fault) = IsNoDamage fault
 -- so it is for the book of the pages, where they have one
 pub record OfBook (pages : Pages) (Says : Book → Type 0) : Type 0 where
   pub each : (page_size : ℕ) (book : Book) → IsBook page_size pages book → Says book
+
+-- the same of the pages of a space, whose page size is that of the book of no pages
+pub record OfSpace (s : SpaceState) (Says : Book → Type 0) : Type 0 where
+  pub each : (book : Book) → IsBook s.page_size s.pages book → Says book

@@ -8,3 +8,5 @@ pub mod ListSteps
 pub mod Cookie
 pub mod Dropped
 pub mod DropSteps
+pub mod Made
+pub mod MakeSteps

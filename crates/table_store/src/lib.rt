@@ -6,8 +6,11 @@
 //! After sqlite.org, "Database File Format", section 2.6, "Storage Of The SQL Database Schema".
 #![tactic(auto)]
 
+mod begin;
 mod cookie;
+mod creates;
 mod drops;
+mod entry;
 mod fault;
 mod fill;
 mod listing;
@@ -16,6 +19,7 @@ mod schema;
 mod writes;
 
 pub use db_format::{Create, PlainTable, Record, SpaceFault, TableEntry, TableList, Value};
+pub use creates::create;
 pub use drops::drop_table;
 pub use fault::TableFault;
 pub use listing::list;

@@ -123,7 +123,7 @@ fn any_long(values: &[Value]) -> bool
 }
 
 /// Does nothing: that bytes are bytes is a fact of their type.
-fn are_bytes(bytes: &[u8])
+pub(crate) fn are_bytes(bytes: &[u8])
     ensures { AreBytes bytes.now }
 {}
 

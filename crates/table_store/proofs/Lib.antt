@@ -9,5 +9,8 @@ pub mod CookieLemmas
 pub mod ChangedLemmas
 pub mod ListLemmas
 pub mod DropEntryLemmas
+pub mod FirstPageLemmas
+pub mod CreateEntryLemmas
 pub mod DropStepLemmas
+pub mod CreateStepLemmas
 pub mod DropBookLemmas

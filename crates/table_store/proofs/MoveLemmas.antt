@@ -57,8 +57,8 @@ cell_in-moved {b = b} {was = was} met m p = record {
   placed = placed-moved (midway b met) p.descent p.cell was (within p.written m) p.placed;
 }
 
-pub done-moved : {a b c : SpaceState} {root : ℕ} {rowid : ℤ} {payload : List ℕ} {replaced : Bool} → Moved a b c → PutDone b c root rowid payload replaced
-    → PutDone (midway a (here b)) c root rowid payload replaced
+pub done-moved : {a b a' c : SpaceState} {root : ℕ} {rowid : ℤ} {payload : List ℕ} {replaced : Bool} → Moved a b a' → PutDone b c root rowid payload replaced
+    → PutDone (midway a (here b)) (midway a' (here c)) root rowid payload replaced
 done-moved {c = c} m d = record {
   was = d.was;
   placed = d.placed;

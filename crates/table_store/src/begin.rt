@@ -12,7 +12,7 @@ ghost use Rattle.table_store.specs.MakeSteps.{BeginsWith};
 use db_format::{SpaceFault, new_header};
 use page_pool::PageSpace;
 use std::alloc::{AllocError, Global};
-use tree_page::{LeafCells, PageCells, write_page};
+use tree_page::{LeafCells, PageCells, front_apart, write_page};
 
 /// Makes page 1 where there is none: a leaf without a row behind a new header.
 ///
@@ -39,11 +39,12 @@ fn first_page(alloc: Global, page_size: u32, usable: u32) -> Result<Vec<u8>, All
     requires least { 480 ≤ usable }
     requires most { usable ≤ page_size }
     requires spare { page_size ≤ usable + 255 }
-    ensures { IfOk result (BeginsWith page_size usable) }
+    ensures { IfOk result (λ page. BeginsWith page_size usable page.items) }
 {
     let mut page = vec![in alloc; 0; page_size as usize]?;
-    new_header(page_size, (page_size - usable) as u8, &mut page);
     let cells = PageCells::Leaf(LeafCells::from_vec(Vec::new(alloc)));
     write_page(&cells, 1, usable, &mut page);
+    front_apart();
+    new_header(page_size, (page_size - usable) as u8, &mut page);
     Ok(page)
 }

@@ -68,7 +68,7 @@ fn is_on_table(kind: &Value) -> bool
     ensures { result ≡ stands_on_table kind.now }
 {
     match kind {
-        Value::Text(kind) => kind.as_slice() == b"index" || kind.as_slice() == b"trigger",
+        Value::Text(kind) => kind.as_slice() == b"index".as_slice() || kind.as_slice() == b"trigger".as_slice(),
         _ => false,
     }
 }
@@ -77,14 +77,15 @@ fn is_on_table(kind: &Value) -> bool
 fn next_entry(rowids: &[i64]) -> i64
     ensures { result ≡ next_of (reverse rowids.now) }
 {
-    match rowids.last() {
-        None => 1,
-        Some(&i64::MAX) => greatest_free(rowids),
-        Some(&last) => last + 1,
+    match rowids {
+        [] => 1,
+        [.., last] if *last == i64::MAX => greatest_free(rowids),
+        [.., last] => *last + 1,
     }
 }
 
 /// The greatest rowid that is none of these, which rise.
+#[tactic(auto, using(crate::proofs::CreateEntryLemmas::reversed))]
 fn greatest_free(rowids: &[i64]) -> i64
     ensures { result ≡ free_below greatest (reverse rowids.now) }
 {

@@ -32,19 +32,19 @@ rest_no_fewer : {old new : SpaceState} (rest : List ℕ) (first : ℕ) → RestW
 rest_no_fewer rest first (inl none) = let e = none.2.number in omega (arith, e)
 rest_no_fewer rest first (inr wrote) = let w = wrote.1 in omega (arith, w.took.no_fewer, w.size)
 
-freed_as_many : {old new : SpaceState} (was : Option LeafCell) → ReplacedFreed old new was → new.pages.size ≡ old.pages.size
-freed_as_many None stays = stays.number
-freed_as_many (Some cell) freed = freed.gave.size
+freed_as_many : (old new : SpaceState) (was : Option LeafCell) → ReplacedFreed old new was → new.pages.size ≡ old.pages.size
+freed_as_many old new None stays = stays.number
+freed_as_many old new (Some cell) freed = freed.gave.size
 
 pub put_no_fewer : {old new : SpaceState} {root : ℕ} {rowid : ℤ} {payload : List ℕ} {replaced : Bool} → PutDone old new root rowid payload replaced → old.pages.size ≤ new.pages.size
-put_no_fewer done =
+put_no_fewer {old = old} {new = new} done =
     let placed = done.before in
     let wrote = placed.before in
     let found = wrote.way.stays.number in
     let chain = rest_no_fewer _ placed.cell.overflow wrote.wrote.rest in
     let took = placed.placed.climbed.took.no_fewer in
     let sheets = placed.placed.size in
-    let freed = freed_as_many done.was done.freed in
+    let freed = freed_as_many (midway old done.placed) new done.was done.freed in
     omega (arith, found, chain, took, sheets, freed)
 
 -- ---- the record of the row
@@ -109,13 +109,13 @@ grew-moved {b = b} c number m grew =
     record { next = grew.next; size = grew.size; change = grew.change; pages_are = λ t. subst G m.sized (grew.pages_are (m.told ∙ t)) }
 
 begin_refused-moved : {a b c : SpaceState} (fault : SpaceFault) → Moved a b c → BeginRefused b c fault → BeginRefused (midway a (here b)) c fault
-begin_refused-moved {c = c} fault m is = (is.0, elim is.1 [
+begin_refused-moved {a = a} {b = b} {c = c} fault m is = (is.0, elim is.1 [
   | inl nothing ↦ inl (stays-moved m nothing.0, grow_cause-moved c fault m nothing.1)
   | inr zeros ↦ inr (record {
     met = zeros.met;
     grew = grew-moved _ 1 (back m) zeros.grew;
     stays = stays-moved (within zeros.met m) zeros.stays;
-    cause = cause-moved c fault m.told zeros.cause;
+    cause = cause-moved a (midway b zeros.met) c fault m.told zeros.cause;
   })
 ])
 

@@ -53,15 +53,15 @@ tree_refused-moved {b = b} c root fault m (inr stops) = inr (record {
 pub raised-moved : {a b c : SpaceState} → Steady a b → CookieRaised b c → CookieRaised (midway a (here b)) c
 raised-moved s r = record { some = r.some; size = r.size; change = r.change; good = λ t. r.good (s.told ∙ t); pages_are = λ t. r.pages_are (s.told ∙ t) }
 
-pub cause-moved : {a b : SpaceState} (c : SpaceState) (fault : SpaceFault) → b.tells ≡ a.tells → PageCause {T = Unit} b c 1 (Err fault) → PageCause {T = Unit} (midway a (here b)) c 1 (Err fault)
-cause-moved c Failed told is = is
-cause-moved c Memory told is = is
-cause-moved c (Bad page kept found) told is = (is.0, λ t. is.1 (told ∙ t))
-cause-moved c (Corrupt page) told is = is
-cause-moved c (Large pages) told is = is
+pub cause-moved : (a b c : SpaceState) (fault : SpaceFault) → b.tells ≡ a.tells → PageCause {T = Unit} b c 1 (Err fault) → PageCause {T = Unit} (midway a (here b)) c 1 (Err fault)
+cause-moved a b c Failed told is = is
+cause-moved a b c Memory told is = is
+cause-moved a b c (Bad page kept found) told is = (is.0, λ t. is.1 (told ∙ t))
+cause-moved a b c (Corrupt page) told is = is
+cause-moved a b c (Large pages) told is = is
 
 pub cookie_refused-moved : {a b c : SpaceState} (fault : SpaceFault) → Steady a b → CookieRefused b c fault → CookieRefused (midway a (here b)) c fault
-cookie_refused-moved {c = c} fault s is = (record { number = is.0.number; change = is.0.change; pages_stay = λ t. is.0.pages_stay (s.told ∙ t) }, cause-moved c fault s.told is.1)
+cookie_refused-moved {a = a} {b = b} {c = c} fault s is = (record { number = is.0.number; change = is.0.change; pages_stay = λ t. is.0.pages_stay (s.told ∙ t) }, cause-moved a b c fault s.told is.1)
 
 -- ---- what was done
 

@@ -105,14 +105,14 @@ first_made {old = old} {mid = mid} {new = new} number page sizes none first seco
 
 pub stops_at_zeros : {old mid new : SpaceState} (number : ℕ) (fault : SpaceFault) → old.pages.size ≡ 0 → Steady old mid → Grew old mid number → Stays mid new
     → PageCause {T = Unit} mid new number (Err fault) → StopsAtZeros old new fault
-stops_at_zeros {mid = mid} {new = new} number fault none first grew stays cause =
+stops_at_zeros {old = old} {mid = mid} {new = new} number fault none first grew stays cause =
     let one : number ≡ 1 = omega (arith, none, grew.next) in
     let C : ℕ → Type 0 = λ n. PageCause {T = Unit} mid new n (Err fault) in
     record {
       met = here mid;
       grew = record { next = omega (arith, none); size = grew.size; change = grew.change; pages_are = grew.pages_are };
       stays = stays-here first stays;
-      cause = cause-moved new fault first.told (subst C one cause);
+      cause = cause-moved old mid new fault first.told (subst C one cause);
     }
 
 pub begins_after : {old mid new : SpaceState} (number : ℕ) (page : List ℕ) (result : Result Unit SpaceFault) → HasSizes old → old.pages.size ≡ 0 → Steady old mid → Steady mid new → Grew old mid number
@@ -120,7 +120,7 @@ pub begins_after : {old mid new : SpaceState} (number : ℕ) (page : List ℕ) (
 begins_after number page (Ok u) sizes none first second grew put begins = inr (first_made number page sizes none first second grew put begins)
 begins_after number page (Err fault) sizes none first second grew stays begins = tt
 
-pub begin_stops : {old mid new : SpaceState} (number : ℕ) (page : List ℕ) (result : Result Unit SpaceFault) → old.pages.size ≡ 0 → Steady old mid → Grew old mid number
+pub begin_stops : {old mid : SpaceState} (new : SpaceState) (number : ℕ) (page : List ℕ) (result : Result Unit SpaceFault) → old.pages.size ≡ 0 → Steady old mid → Grew old mid number
     → PutLeaves mid new number page result → PageCause {T = Unit} mid new number result → IfErr result (BeginRefused old new)
-begin_stops number page (Ok u) none first grew put cause = tt
-begin_stops number page (Err fault) none first grew stays cause = (none, inr (stops_at_zeros number fault none first grew stays cause))
+begin_stops new number page (Ok u) none first grew put cause = tt
+begin_stops new number page (Err fault) none first grew stays cause = (none, inr (stops_at_zeros number fault none first grew stays cause))

@@ -86,6 +86,8 @@ fn put_entry<S: PageSpace>(
     ensures refused { IfErr result (EntryRefused (S.state space.old) (S.state space.new) table.now root entry) }
     ensures noted { NotesChange (S.state space.old) (S.state space.new) }
 {
+    // the space says, when it is asked, that its pages have their sizes
+    let _size = space.size();
     let values = entry_values(alloc, table, root)?;
     let payload = write_record(alloc, values.as_slice())?;
     let bytes = payload.as_slice();

@@ -16,4 +16,4 @@ returns-clause-refused g c =
     let state = g.S.PageSpace.state in
     let old = state c.args.space.now in
     let none : old.pages.size ≡ 0 = search rules in
-    begin_stops c.in_ok-number.number c.deref.result.now c.put.result none c.in_ok-number.ensures.steady c.in_ok-number.ensures.leaves c.put.ensures.leaves c.put.ensures.cause
+    begin_stops (state c.put.new.self) c.in_ok-number.number c.deref.result.now c.put.result none c.in_ok-number.ensures.steady c.in_ok-number.ensures.leaves c.put.ensures.leaves c.put.ensures.cause

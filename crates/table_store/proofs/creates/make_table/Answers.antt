@@ -1,7 +1,8 @@
-use Rattle.std.proofs.Common.{IsTrue, SFits, w64, subst}
+use Rattle.std.proofs.Common.{inr, IsTrue, SFits, w64, subst}
 use Rattle.std.proofs.lemmas.Int.{to_z-of_z}
 use Rattle.std.proofs.lemmas.Result.{err_from_is_err_and}
 use Rattle.payload_chain.proofs.StateLemmas.{here, steady-on}
+use Rattle.tree_write.proofs.WriteLemmas.{noted-on}
 use Rattle.book_model.specs.Book.{Name}
 use Rattle.table_store.specs.Made.{IsFreeIn, NameFree, Begun, Rooted, Entered, EntryPut, EntryRefused}
 use Rattle.table_store.proofs.CreateStepLemmas.{name_free, begun, rooted, entered, make_done, stops_at_first, stops_at_new_root, stops_at_entry, stops_at_new_cookie}
@@ -72,6 +73,21 @@ returns-in_err-put_entry-clause-refused g c =
     let p = err_from_is_err_and c.from_residual-in_err-put_entry.result c.from_residual-in_err-put_entry.ensures.1 in
     rw (p.1, p.2) (stops_at_entry table fault to_made stops.steady with_root refused)
 
+pub returns-in_err-raise_cookie-clause-steady : goal.returns-in_err-raise_cookie-clause-steady
+returns-in_err-raise_cookie-clause-steady g c =
+    let to_started = steady-on c.in_ok-entry.ensures.steady c.in_ok-begin.ensures.steady in
+    let to_put = steady-on (steady-on to_started c.in_ok-root.ensures.steady) c.in_ok-put_entry.ensures.steady in
+    steady-on to_put c.in_err-raise_cookie.ensures.steady
+
+pub returns-in_err-raise_cookie-clause-noted : goal.returns-in_err-raise_cookie-clause-noted
+returns-in_err-raise_cookie-clause-noted g c =
+    let first = c.in_ok-entry.ensures in
+    let to_started = steady-on first.steady c.in_ok-begin.ensures.steady in
+    let to_made = steady-on to_started c.in_ok-root.ensures.steady in
+    let to_put = steady-on to_made c.in_ok-put_entry.ensures.steady in
+    let made = noted-on to_started (noted-on first.steady (inr first.stays) c.in_ok-begin.ensures.noted) c.in_ok-root.ensures.noted in
+    noted-on to_put (noted-on to_made made c.in_ok-put_entry.ensures.noted) c.in_err-raise_cookie.ensures.noted
+
 pub returns-in_err-raise_cookie-clause-refused : goal.returns-in_err-raise_cookie-clause-refused
 returns-in_err-raise_cookie-clause-refused g c =
     let state = g.S.PageSpace.state in
@@ -80,7 +96,7 @@ returns-in_err-raise_cookie-clause-refused g c =
     let table = c.args.table.now in
     let entry = c.in_ok-entry.entry in
     let first = c.in_ok-entry.ensures in
-    let key_fits : SFits w64 entry = search c in
+    let key_fits : SFits w64 entry = search c.in_ok-entry in
     let F : Name → Type 0 = λ n. IsTrue old.tells → IsFreeIn old.pages n entry in
     let free : NameFree old (here found) table.name entry = name_free first.stays (subst F c.as_slice.ensures first.found) in
     let second = c.in_ok-begin.ensures in
@@ -111,7 +127,7 @@ returns-clause-done g c =
     let table = c.args.table.now in
     let entry = c.in_ok-entry.entry in
     let first = c.in_ok-entry.ensures in
-    let key_fits : SFits w64 entry = search c in
+    let key_fits : SFits w64 entry = search c.in_ok-entry in
     let F : Name → Type 0 = λ n. IsTrue old.tells → IsFreeIn old.pages n entry in
     let free : NameFree old (here found) table.name entry = name_free first.stays (subst F c.as_slice.ensures first.found) in
     let second = c.in_ok-begin.ensures in
@@ -129,3 +145,9 @@ returns-clause-done g c =
     let with_row : Entered old (here put) table entry number = entered to_made with_root row in
     let to_put = steady-on to_made fourth.steady in
     make_done to_put with_row c.in_ok-raise_cookie.ensures.raised
+
+pub returns-clause-steady : goal.returns-clause-steady
+returns-clause-steady g c =
+    let to_started = steady-on c.in_ok-entry.ensures.steady c.in_ok-begin.ensures.steady in
+    let to_put = steady-on (steady-on to_started c.in_ok-root.ensures.steady) c.in_ok-put_entry.ensures.steady in
+    steady-on to_put c.in_ok-raise_cookie.ensures.steady

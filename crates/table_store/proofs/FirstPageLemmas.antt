@@ -9,7 +9,6 @@ use Rattle.page_list.specs.Edits.{with_page}
 use Rattle.page_pool.specs.Space.{SpaceState, HasSizes, Steady, Stays, Put, Grew, PutLeaves, PageCause}
 use Rattle.payload_chain.proofs.StateLemmas.{here, stays-here}
 use Rattle.tree_page.specs.Page.{IsPage}
-use Rattle.tree_page.specs.Written.{Fits}
 use Rattle.tree_page.specs.Laws.{FrontApart}
 use Rattle.tree_page.specs.declared.cell.PageCells.{PageCells}
 use Rattle.tree_page.specs.declared.cell.PageCells.TheVariants.{Leaf as LeafPage}
@@ -19,11 +18,6 @@ use Rattle.table_store.specs.MakeSteps.{BeginsWith}
 use Rattle.table_store.proofs.DropStepLemmas.{cause-moved}
 
 -- ---- its bytes
-
-pub empty_fits : (usable : ℕ) (cells : PageCells) → 480 ≤ usable → cells ≡ LeafPage [] → Fits cells 1 usable
-empty_fits usable cells least is =
-    let F : PageCells → Type 0 = λ c. Fits c 1 usable in
-    subst F (sym is) (record { rising = tt; sound = tt; room = omega arith })
 
 -- lists that are the same from a place on are so at each place behind it
 same_behind : (n : ℕ) (xs ys : List ℕ) → drop n xs ≡ drop n ys → (k : ℕ) → n ≤ k → get_or xs k 0 ≡ get_or ys k 0

@@ -1,10 +1,9 @@
 -- A table made, step by step, said of the state before.
-use Rattle.std.proofs.Common.{◌≡◌, inl, inr, ℕ, ℤ, ◌-◌, ◌≤◌, List, [], ◌∷◌, Option, Some, None, Bool, IsTrue, Err, refl, sym, subst, ◌∙◌, arith}
-use Rattle.page_list.specs.Pages.{Pages}
+use Rattle.std.proofs.Common.{◌≡◌, inl, inr, ℕ, ℤ, ◌-◌, ◌≤◌, List, [], ◌∷◌, Option, Some, None, Bool, IsTrue, Err, sym, subst, ◌∙◌, arith}
 use Rattle.page_list.specs.Edits.{grown, after_take}
 use Rattle.page_pool.specs.Space.{SpaceState, Steady, Stays, Grew, GrowCause}
 use Rattle.page_pool.specs.Pool.{Grows, Taken}
-use Rattle.payload_chain.specs.Chains.{Midway, midway}
+use Rattle.payload_chain.specs.Chains.{midway}
 use Rattle.payload_chain.proofs.StateLemmas.{here, steady-on}
 use Rattle.db_format.specs.Record.{IsRecord, IsShortest, AreBytes}
 use Rattle.db_format.specs.declared.create.Create.{Create}
@@ -14,15 +13,13 @@ use Rattle.db_format.specs.declared.fault.SpaceFault.TheVariants.{Failed, Memory
 use Rattle.tree_page.specs.declared.cell.LeafCell.{LeafCell}
 use Rattle.tree_remove.proofs.MoveLemmas.{Moved, moved-midway, moved-to, within, back, stays-moved, take_refused-moved, put_refused-moved as page_refused-moved}
 use Rattle.rowid_tree.specs.Steps.{RestWritten, ReplacedFreed}
-use Rattle.rowid_tree.specs.Puts.{PutDone, PutsRow, PutRefused, MayBeLarge, IsSoundlyRefused}
+use Rattle.rowid_tree.specs.Puts.{PutDone, MayBeLarge}
 use Rattle.rowid_tree.specs.Roots.{EmptyLeaf, RootMade, RootRefused, AddsRoot}
 use Rattle.book_model.specs.Book.{Name, entry_row}
 use Rattle.book_changes.specs.First.{IsFirstPage}
-use Rattle.table_store.specs.declared.fault.TableFault.{TableFault}
-use Rattle.table_store.specs.declared.fault.TableFault.TheVariants.{NoTable, Foreign, Exists, Columns, TooLong, Space}
+use Rattle.table_store.specs.declared.fault.TableFault.TheVariants.{Space}
 use Rattle.table_store.specs.Cookie.{CookieRaised, CookieRefused}
 use Rattle.table_store.specs.Made.{IsFreeIn, NameFree, Begins, BeginRefused, IsEntryRecord, EntryPut, EntryRefused, Begun, Rooted, Entered, MakeDone, MakeFails}
-use Rattle.table_store.specs.MakeSteps.{NameRefused}
 use Rattle.table_store.proofs.MoveLemmas.{stays-met, done-moved, put_refused-moved}
 use Rattle.table_store.proofs.DropStepLemmas.{raised-moved, cause-moved, cookie_refused-moved}
 
@@ -109,15 +106,18 @@ grew-moved {b = b} c number m grew =
     record { next = grew.next; size = grew.size; change = grew.change; pages_are = λ t. subst G m.sized (grew.pages_are (m.told ∙ t)) }
 
 begin_refused-moved : {a b c : SpaceState} (fault : SpaceFault) → Moved a b c → BeginRefused b c fault → BeginRefused (midway a (here b)) c fault
-begin_refused-moved {a = a} {b = b} {c = c} fault m is = (is.0, elim is.1 [
-  | inl nothing ↦ inl (stays-moved m nothing.0, grow_cause-moved c fault m nothing.1)
-  | inr zeros ↦ inr (record {
-    met = zeros.met;
-    grew = grew-moved _ 1 (back m) zeros.grew;
-    stays = stays-moved (within zeros.met m) zeros.stays;
-    cause = cause-moved a (midway b zeros.met) c fault m.told zeros.cause;
-  })
-])
+begin_refused-moved {a = a} {b = b} {c = c} fault m is = (
+  is.0,
+  elim is.1 [
+    | inl nothing ↦ inl (stays-moved m nothing.0, grow_cause-moved c fault m nothing.1)
+    | inr zeros ↦ inr (record {
+      met = zeros.met;
+      grew = grew-moved _ 1 (back m) zeros.grew;
+      stays = stays-moved (within zeros.met m) zeros.stays;
+      cause = cause-moved a (midway b zeros.met) c fault m.told zeros.cause;
+    })
+  ],
+)
 
 taken-moved : {a b a' : SpaceState} (c : SpaceState) (number : ℕ) → Moved a b a' → Taken b c number → Taken (midway a (here b)) (midway a' (here c)) number
 taken-moved {b = b} c number m taken =
@@ -185,14 +185,6 @@ make_done {mid = mid} {entry = entry} {number = number} first before raised =
     record { entry = entry; number = number; entered = here mid; before = before; raised = raised-moved first raised }
 
 -- ---- why it was not
-
-pub name_fails : (old new : SpaceState) (table : Create) (fault : TableFault) → Stays old new → NameRefused old new table.name fault → MakeFails old new table fault
-name_fails old new table NoTable stays is = is
-name_fails old new table Foreign stays is = is
-name_fails old new table Exists stays is = (stays, is)
-name_fails old new table Columns stays is = is
-name_fails old new table TooLong stays is = is
-name_fails old new table (Space fault) stays is = inl (stays, is)
 
 pub stops_at_first : {old mid new : SpaceState} {entry : ℤ} (table : Create) (fault : SpaceFault) → Steady old mid → Steady mid new → NameFree old (here mid) table.name entry → BeginRefused mid new fault
     → MakeFails old new table (Space fault)

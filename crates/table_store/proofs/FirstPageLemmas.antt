@@ -84,7 +84,7 @@ first_page old middle new page sizes are size used begins =
       };
     }
 
-pub first_made : {old mid new : SpaceState} (number : ℕ) (page : List ℕ) → HasSizes old → old.pages.size ≡ 0 → Steady old mid → Steady mid new → Grew old mid number → Put mid new number page
+first_made : {old mid new : SpaceState} (number : ℕ) (page : List ℕ) → HasSizes old → old.pages.size ≡ 0 → Steady old mid → Steady mid new → Grew old mid number → Put mid new number page
     → BeginsWith old.page_size old.pages.usable page → FirstMade old new
 first_made {old = old} {mid = mid} {new = new} number page sizes none first second grew put begins =
     let size : new.pages.size ≡ 1 = omega (arith, none, grew.size, put.size) in
@@ -97,7 +97,7 @@ first_made {old = old} {mid = mid} {new = new} number page sizes none first seco
       first = λ t. first_page old mid.pages new.pages page sizes (subst P one (put.pages_are (first.told ∙ t))) size (second.used ∙ first.used) begins;
     }
 
-pub stops_at_zeros : {old mid new : SpaceState} (number : ℕ) (fault : SpaceFault) → old.pages.size ≡ 0 → Steady old mid → Grew old mid number → Stays mid new
+stops_at_zeros : {old mid new : SpaceState} (number : ℕ) (fault : SpaceFault) → old.pages.size ≡ 0 → Steady old mid → Grew old mid number → Stays mid new
     → PageCause {T = Unit} mid new number (Err fault) → StopsAtZeros old new fault
 stops_at_zeros {old = old} {mid = mid} {new = new} number fault none first grew stays cause =
     let one : number ≡ 1 = omega (arith, none, grew.next) in

@@ -68,7 +68,8 @@ fn is_on_table(kind: &Value) -> bool
     ensures { result ≡ stands_on_table kind.now }
 {
     match kind {
-        Value::Text(kind) => kind.as_slice() == b"index".as_slice() || kind.as_slice() == b"trigger".as_slice(),
+        Value::Text(kind) => kind.as_slice() == b"index".as_slice()
+            || kind.as_slice() == b"trigger".as_slice(),
         _ => false,
     }
 }

@@ -18,8 +18,8 @@ mod reads;
 mod schema;
 mod writes;
 
-pub use db_format::{Create, PlainTable, Record, SpaceFault, TableEntry, TableList, Value};
 pub use creates::create;
+pub use db_format::{Create, PlainTable, Record, SpaceFault, TableEntry, TableList, Value};
 pub use drops::drop_table;
 pub use fault::TableFault;
 pub use listing::list;

@@ -1,4 +1,4 @@
-use Rattle.std.proofs.Common.{◌≡◌, ℕ, List, IsTrue, rules, subst, arith}
+use Rattle.std.proofs.Common.{◌≡◌, rules}
 use Rattle.table_store.specs.MakeSteps.{BeginsWith}
 use Rattle.table_store.proofs.FirstPageLemmas.{begins_after, begin_stops}
 use Rattle.table_store.proofs.begin.begin.Goals as goal

@@ -1,4 +1,4 @@
-use Rattle.std.proofs.Common.{inr, ℕ, List, IsTrue, sym, subst, ◌∙◌, arith}
+use Rattle.std.proofs.Common.{inr, IsTrue, ◌∙◌, arith}
 use Rattle.std.proofs.lemmas.Int.{to_z-of_z}
 use Rattle.std.proofs.lemmas.Result.{err_from_is_err_and}
 use Rattle.rowid_tree.specs.Puts.{PutDone, PutRefused, PutsRow, MayBeLarge}
@@ -17,9 +17,9 @@ returns-in_err-_replaced-clause-refused g c =
     let fault = c.in_err-_replaced.field-0.0 in
     let key_fits = c.ranges.entry in
     let is : IsEntryRecord c.args.table.now c.args.root bytes =
-        entry_record c.args.table.now c.args.root c.as_slice.result.now c.in_ok-payload.payload bytes c.as_slice-bytes.ensures (c.as_slice.ensures ∙ c.in_ok-values.ensures) c.are_bytes.ensures
-        c.in_ok-payload.ensures.is_record c.in_ok-payload.ensures.shortest
-        in
+    entry_record c.args.table.now c.args.root c.as_slice.result.now c.in_ok-payload.payload bytes c.as_slice-bytes.ensures (c.as_slice.ensures ∙ c.in_ok-values.ensures) c.are_bytes.ensures
+    c.in_ok-payload.ensures.is_record c.in_ok-payload.ensures.shortest
+    in
     let refused : PutRefused old new 1 entry bytes fault = simp to_z-of_z at stops.refused in
     let large : IsTrue old.tells → MayBeLarge old.pages 1 entry bytes old.page_size fault = simp to_z-of_z at stops.large in
     let p = err_from_is_err_and c.from_residual-in_err-_replaced.result c.from_residual-in_err-_replaced.ensures.1 in
@@ -40,9 +40,9 @@ returns-clause-put g c =
     let key_fits = c.ranges.entry in
     let replaced = c.in_ok-_replaced._replaced in
     let is : IsEntryRecord c.args.table.now c.args.root bytes =
-        entry_record c.args.table.now c.args.root c.as_slice.result.now c.in_ok-payload.payload bytes c.as_slice-bytes.ensures (c.as_slice.ensures ∙ c.in_ok-values.ensures) c.are_bytes.ensures
-        c.in_ok-payload.ensures.is_record c.in_ok-payload.ensures.shortest
-        in
+    entry_record c.args.table.now c.args.root c.as_slice.result.now c.in_ok-payload.payload bytes c.as_slice-bytes.ensures (c.as_slice.ensures ∙ c.in_ok-values.ensures) c.are_bytes.ensures
+    c.in_ok-payload.ensures.is_record c.in_ok-payload.ensures.shortest
+    in
     let done : PutDone old new 1 entry bytes replaced = simp to_z-of_z at c.in_ok-_replaced.ensures.done in
     let puts : IsTrue old.tells → PutsRow old.pages new.pages 1 entry bytes replaced = simp to_z-of_z at c.in_ok-_replaced.ensures.puts in
     record { payload = bytes; is = is; replaced = replaced; done = done; puts = puts }

@@ -26,7 +26,7 @@ returns-clause-found g c = λ t.
     let key_fits : SFits w64 entry = search c in
     let F : List (List Value) → Type 0 = λ l. is_named (flat_map taken_by l) name ≡ false in
     let free : IsFreeIn old.pages name entry =
-        free_in_schema old.pages schema.rowids.items schema.rows.items name entry (c.in_ok-schema.ensures.found t)
-        (subst F c.deref.ensures.value (sym c.is_taken.ensures ∙ c.if-is_taken.false)) (c.next_entry.ensures ∙ ap (λ (l : List ℤ). next_of (reverse l)) c.deref-2.ensures.value)
-        in
+    free_in_schema old.pages schema.rowids.items schema.rows.items name entry (c.in_ok-schema.ensures.found t)
+    (subst F c.deref.ensures.value (sym c.is_taken.ensures ∙ c.if-is_taken.false)) (c.next_entry.ensures ∙ ap (λ (l : List ℤ). next_of (reverse l)) c.deref-2.ensures.value)
+    in
     simp to_z-of_z free

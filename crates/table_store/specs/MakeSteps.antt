@@ -1,5 +1,5 @@
 -- Words that only the steps of a table made use.
-use Rattle.std.specs.Prelude.{◌≡◌, ℕ, ℤ, ◌-◌, IsTrue, List, [], length}
+use Rattle.std.specs.Prelude.{◌≡◌, ℕ, ◌-◌, IsTrue, List, [], length}
 use Rattle.db_format.specs.Header.{IsNew, ReadsNew}
 use Rattle.page_pool.specs.Space.{SpaceState, IsZeroFrom}
 use Rattle.tree_page.specs.Page.{IsPage}

@@ -5,9 +5,9 @@ Usage: bench/tables_against_sqlite.py. Needs `sqlite3` and `rt`; without sqlite3
 several page sizes, with reserved bytes or none: tables of names and columns alone, with rows of every kind of value, rows on many
 pages, rows that were deleted, and a column that was added later; tables with an index, a trigger, types or upper-case names; views, tables
 WITHOUT ROWID and with AUTOINCREMENT; and one schema of hundreds of rows. Each plain table is counted and scanned, and single rows are
-asked for; the other names have to be refused by their cause. Then tables are listed and dropped, rows put and taken out, all is read again,
+asked for; the other names have to be refused by their cause. Then tables are listed, dropped and made, rows put and taken out, all is read again,
 and sqlite3 checks the pages that are left and prints the same rows; the other tables, the index, the trigger and the view have to be as they
-were. The program is a crate that is made in a folder of its own, over copies of
+were. The same is done of databases that are begun here. The program is a crate that is made in a folder of its own, over copies of
 table_store, shell_lang and of what they stand on, and is run there by `rt try`; the repository stays as it is.
 """
 import os
@@ -26,12 +26,12 @@ SPACES = [(512, 0), (512, 32), (1024, 8), (4096, 0), (8192, 8), (65536, 0)]
 PROGRAM = """//! Made by bench/tables_against_sqlite.py.
 #![tactic(auto)]
 
-use db_format::Bytes;
+use db_format::{Bytes, Create};
 use shell_lang::{Command, Db, ErrorWord, Reply, RowList, ScanEnd, read_command, write_reply};
 use std::alloc::{AllocError, Global};
 use std::io::Read;
 use std::process::ExitCode;
-use table_store::{PageSpace, SpaceFault, TableFault, count, drop_table, get, list, put, remove, scan_next};
+use table_store::{PageSpace, SpaceFault, TableFault, count, create, drop_table, get, list, put, remove, scan_next};
 use page_pool::MemSpace;
 
 /// All bytes of standard input.
@@ -100,6 +100,10 @@ fn answer(alloc: Global, space: &mut MemSpace, command: Command) -> Result<Reply
         Command::Scan { table, low, high } => scan(alloc, space, table.name.as_slice(), low, high),
         Command::Count { table } => Ok(Reply::Count { rows: count(alloc, space, table.name.as_slice())? }),
         Command::Tables => Ok(Reply::TableLines { tables: list(alloc, space)? }),
+        Command::Create { table, columns } => {
+            create(alloc, space, &Create { name: table.name, columns })?;
+            Ok(Reply::Done)
+        }
         Command::Drop { table } => {
             drop_table(alloc, space, table.name.as_slice())?;
             Ok(Reply::Done)
@@ -337,13 +341,33 @@ def changes(rng, usable, tables):
         yield f"drop {name}", ["error foreign"]
     for name in ["seen", "by_a", "nothing"]:
         yield f"drop {name}", ["error no-table"]
+    for name in ["t", "indexed", "mixed", "seen", "by_a", "watch", "without"]:
+        yield f"create {name} a", ["error exists"]
     yield "put t 1 i:1", ["error columns"]
     yield "drop z_9", ["ok"]
     del tables["z_9"]
+    yield from makes(tables, "z_9", ["one", "two"])
+    yield from makes(tables, "fresh", [f"column_{at}" for at in range(32)])
     yield "tables", tables_line(tables)
+    yield from rows_changed(rng, usable, tables, ["t", "empty", "z_9"])
+    yield "drop wide", ["ok"]
+    del tables["wide"]
+    for at in range(12):
+        yield from makes(tables, f"later_{at}", ["a"])
+    yield "tables", tables_line(tables)
+
+
+def makes(tables, name, columns):
+    """A table made."""
+    yield " ".join(["create", name] + columns), ["ok"]
+    tables[name] = (columns, {})
+
+
+def rows_changed(rng, usable, tables, names):
+    """Rows put into these tables and taken out of them."""
     rows = 120 if usable < 4000 else 40 if usable < 40_000 else 8
     for at in range(rows):
-        name = rng.choice(["t", "empty"])
+        name = rng.choice(names)
         columns, there = tables[name]
         rowid = rng.choice([rng.randrange(-300, 600), 2**63 - 1, -(2**63)] + list(there)[:20])
         if rng.randrange(3) == 0:
@@ -352,9 +376,22 @@ def changes(rng, usable, tables):
         values = [some_value(rng, min(usable, 3000), written=True) for _ in columns]
         yield " ".join(["put", name, str(rowid)] + list(map(spelled, values))), ["replaced" if rowid in there else "new"]
         there[rowid] = values
-    yield "drop wide", ["ok"]
-    del tables["wide"]
-    yield "tables", tables_line(tables)
+
+
+def begins(rng, usable, tables):
+    """The same in a database of no pages."""
+    yield "tables", ["end 0"]
+    yield "drop t", ["error no-table"]
+    yield from makes(tables, "t", ["a", "b"])
+    yield "create t x", ["error exists"]
+    yield from makes(tables, "u", [f"column_{at}" for at in range(32)])
+    yield "drop u", ["ok"]
+    del tables["u"]
+    yield from makes(tables, "v", ["a"])
+    yield from rows_changed(rng, usable, tables, ["t", "v"])
+    yield "tables", [" ".join(["table", name] + tables[name][0]) for name in sorted(tables)] + [f"end {len(tables)}"]
+    for name, (_, rows) in tables.items():
+        yield f"count {name}", [f"count {len(rows)}"]
 
 
 def bytes_of(line):
@@ -395,7 +432,7 @@ def check_left(path, before, tables, data):
         file.write(first)
     if (said := sqlite(path, "PRAGMA integrity_check;")) != "ok\n":
         raise SystemExit(f"{path}: {said}")
-    if sqlite(path, UNHARMED) != before[0]:
+    if before[0] is not None and sqlite(path, UNHARMED) != before[0]:
         raise SystemExit(f"{path}: a table that is not plain, an index, a trigger or a view is another")
     for name, (columns, rows) in tables.items():
         cells = " || ' ' || ".join(f"typeof({column}) || ':' || hex(CAST({column} AS BLOB))" for column in columns)
@@ -406,6 +443,7 @@ def check_left(path, before, tables, data):
 
 
 def compare(made, folder, rng, size, reserved, more):
+    """A database that sqlite3 made, read and changed."""
     path = os.path.join(folder, f"made_{size}_{reserved}_{more}.db")
     tables = make(path, rng, size, reserved, more)
     with open(path, "rb") as file:
@@ -415,7 +453,18 @@ def compare(made, folder, rng, size, reserved, more):
     if not more:
         asked += list(changes(rng, size - reserved, tables))
         asked += list(reads(tables))
-    before = (sqlite(path, UNHARMED), size)
+    run(made, path, size, reserved, data, asked, tables, sqlite(path, UNHARMED))
+
+
+def compare_new(made, folder, rng, size, reserved):
+    """One that is begun here."""
+    tables = {}
+    asked = list(begins(rng, size - reserved, tables))
+    run(made, os.path.join(folder, f"begun_{size}_{reserved}.db"), size, reserved, b"", asked, tables, None)
+
+
+def run(made, path, size, reserved, data, asked, tables, others):
+    """Each command is answered by the lines that are due, and sqlite3 reads what is left."""
     text = "\n".join(line for line, _ in asked) + "\n"
     given = struct.pack(">III", size, reserved, len(data)) + data + text.encode()
     done = subprocess.run(["rt", "try", "--steps", "1", "--seconds", "900"], cwd=made, input=given, capture_output=True)
@@ -427,8 +476,8 @@ def compare(made, folder, rng, size, reserved, more):
     left = b"".join(map(bytes_of, printed[len(due):]))
     if len(left) % size != 0 or len(left) < len(data):
         raise SystemExit(f"{size} {reserved}: {len(left)} bytes of pages are left")
-    check_left(path + ".left", before, tables, left)
-    print(f"{size} bytes a page, {reserved} reserved, {len(tables)} plain tables: {len(asked)} commands, {len(due)} lines agree, {len(left) // size} pages left")
+    check_left(path + ".left", (others, size), tables, left)
+    print(f"{size} bytes a page, {reserved} reserved, {len(tables)} plain tables: {len(asked)} commands, {len(due)} lines agree, {len(left) // size} pages left", flush=True)
 
 
 def main():
@@ -439,6 +488,7 @@ def main():
     with tempfile.TemporaryDirectory() as folder:
         made = program(folder, "tables_by_name", ["table_store", "shell_lang", "page_pool"], PROGRAM)
         for size, reserved in SPACES:
+            compare_new(made, folder, rng, size, reserved)
             compare(made, folder, rng, size, reserved, 0)
         # a schema of hundreds of rows
         compare(made, folder, rng, 1024, 0, 300)

@@ -1,41 +1,29 @@
 //! Tables filled, read, listed and dropped.
 
+ghost use Rattle.std.specs.Prelude.{IfOk};
+ghost use Rattle.db_format.specs.Create.{IsPlain};
+
 use crate::tall::Tall;
 use byte_base::{Bytes, u32_at};
-use db_format::{SpaceFault, TableEntry, Value, new_header, write_record};
-use page_pool::{MemSpace, PageSpace, put_cleared};
-use rowid_tree::make_root;
+use db_format::{Create, SpaceFault, TableEntry, Value, read_create};
+use page_pool::{MemSpace, PageSpace};
 use std::alloc::Global;
 use std::process::Abort;
 use std::test::Fail;
-use table_store::{TableFault, count, drop_table, get, list, put, remove, scan_next};
-use tree_page::{LeafCells, PageCells, write_page};
+use table_store::{TableFault, count, create, drop_table, get, list, put, remove, scan_next};
 
-/// A text value.
-fn text(alloc: Global, bytes: &[u8]) -> Result<Value, Fail> {
-    Ok(Value::Text(Bytes::copy_of(alloc, bytes)?))
+/// The plain table that a text makes.
+fn table(alloc: Global, sql: &[u8]) -> Result<Create, Fail>
+    ensures { IfOk result (λ table. IsPlain table) }
+{
+    Ok(read_create(alloc, sql)?.ok_or("no plain table")?)
 }
 
 /// A database with the plain table `t(a)`, which has no row, on pages of 512 bytes.
 fn database(rt: &impl Abort, alloc: Global) -> Result<MemSpace, Fail> {
     let mut space = MemSpace::new(alloc, 512, 0)?;
-    space.grow()?;
-    let mut page = vec![in alloc; 0u8; 512]?;
-    let cells = PageCells::Leaf(LeafCells::from_vec(Vec::new(alloc)));
-    write_page(&cells, 1, 512, &mut page);
-    new_header(512, 0, &mut page);
-    put_cleared(&mut space, 1, &mut page)?;
-    let root = make_root(alloc, &mut space)?;
+    create(alloc, &mut space, &table(alloc, b"CREATE TABLE t(a)")?)?;
     assert!(rt; space.size() == 2);
-    let values = [
-        text(alloc, b"table")?,
-        text(alloc, b"t")?,
-        text(alloc, b"t")?,
-        Value::Int(i64::from(root)),
-        text(alloc, b"CREATE TABLE t(a)")?,
-    ];
-    let entry = write_record(alloc, &values)?;
-    rowid_tree::put(alloc, &mut space, 1, 1, entry.as_slice())?;
     Ok(space)
 }
 
@@ -73,7 +61,7 @@ fn rows_stand_at_both_ends(rt: HostRuntime) -> Result<(), Fail> {
 }
 
 #[test]
-fn a_dropped_table_leaves_its_page_free(rt: HostRuntime) -> Result<(), Fail> {
+fn a_dropped_table_leaves_its_page_to_another(rt: HostRuntime) -> Result<(), Fail> {
     let mut space = database(&rt, rt.alloc())?;
     assert!(rt; !put(rt.alloc(), &mut space, b"t", 1, &[Value::Int(1)])?);
     assert!(rt; remove(rt.alloc(), &mut space, b"t", 1)?);
@@ -88,13 +76,24 @@ fn a_dropped_table_leaves_its_page_free(rt: HostRuntime) -> Result<(), Fail> {
             Err(TableFault::NoTable)
         )
     );
-    assert_eq!(rt; header_number(&rt, rt.alloc(), &mut space, 40)?, 0);
+    assert_eq!(rt; header_number(&rt, rt.alloc(), &mut space, 40)?, 1);
 
     drop_table(rt.alloc(), &mut space, b"t")?;
     assert!(rt; list(rt.alloc(), &mut space)?.as_slice().is_empty());
     assert_eq!(rt; space.size(), 2);
     assert_eq!(rt; header_number(&rt, rt.alloc(), &mut space, 36)?, 1);
-    assert_eq!(rt; header_number(&rt, rt.alloc(), &mut space, 40)?, 1);
+    assert_eq!(rt; header_number(&rt, rt.alloc(), &mut space, 40)?, 2);
+
+    let again = table(rt.alloc(), b"CREATE TABLE u(a,b)")?;
+    create(rt.alloc(), &mut space, &again)?;
+    assert!(rt;
+        matches!(
+            create(rt.alloc(), &mut space, &again),
+            Err(TableFault::Exists)
+        )
+    );
+    assert_eq!(rt; space.size(), 2);
+    assert_eq!(rt; header_number(&rt, rt.alloc(), &mut space, 36)?, 0);
     Ok(())
 }
 

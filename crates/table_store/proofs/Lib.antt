@@ -14,3 +14,6 @@ pub mod CreateEntryLemmas
 pub mod DropStepLemmas
 pub mod CreateStepLemmas
 pub mod DropBookLemmas
+pub mod NextEntryLemmas
+pub mod EntrySizeLemmas
+pub mod CreateBookLemmas

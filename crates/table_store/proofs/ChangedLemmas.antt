@@ -208,7 +208,7 @@ no_damage Past old new A (Bad page kept found) refused none = none
 no_damage Past old new A (Corrupt page) refused none = none
 no_damage Past old new A (Large pages) refused none = absurd refused
 
-past_put : (Past : ℕ → Type 0) (pages : Pages) (root : ℕ) (rowid : ℤ) (payload : List ℕ) (page_size : ℕ) (fault : SpaceFault) → IsNoDamage fault
+pub past_put : (Past : ℕ → Type 0) (pages : Pages) (root : ℕ) (rowid : ℤ) (payload : List ℕ) (page_size : ℕ) (fault : SpaceFault) → IsNoDamage fault
     → MayBeLarge pages root rowid payload page_size fault → ((n : ℕ) → IsTooLarge pages root rowid payload page_size n → Past n) → NoDamage Past fault
 past_put Past pages root rowid payload page_size Failed none large more = tt
 past_put Past pages root rowid payload page_size Memory none large more = tt

@@ -96,7 +96,7 @@ entry_keeps kept begun rooted entered book number entry payload replaced is adds
 -- ---- a table made
 
 -- the payload is the row that the book has then
-entry_of : RecordHasSize → (table : Create) (number : ℕ) (payload : List ℕ) → IsPlain table → IsEntryRecord table number payload → IsEntry table.name table.columns number payload
+pub entry_of : RecordHasSize → (table : Create) (number : ℕ) (payload : List ℕ) → IsPlain table → IsEntryRecord table number payload → IsEntry table.name table.columns number payload
 entry_of has table number payload plain is = record {
   is_record = is.is_record;
   size = (entry_sized has table number payload plain is.bytes is.is_record is.shortest).is;

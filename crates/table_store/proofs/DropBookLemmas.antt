@@ -164,10 +164,10 @@ no_fault (Corrupt page) Past old new root refused none = none
 no_fault (Large pages) Past old new root (inl refused) none = absurd refused.1
 no_fault (Large pages) Past old new root (inr stops) none = absurd stops.refused
 
-not_bad : (sums : ℕ × ℕ) → ¬ (None ≡ Some sums)
+pub not_bad : (sums : ℕ × ℕ) → ¬ (None ≡ Some sums)
 not_bad sums e = cc
 
-cookie_fault : (fault : SpaceFault) (Past : ℕ → Type 0) (old new : SpaceState) → IsTrue old.tells → IsGood old.pages 1 → CookieRefused old new fault → NoDamage Past fault
+pub cookie_fault : (fault : SpaceFault) (Past : ℕ → Type 0) (old new : SpaceState) → IsTrue old.tells → IsGood old.pages 1 → CookieRefused old new fault → NoDamage Past fault
 cookie_fault Failed Past old new t good refused = tt
 cookie_fault Memory Past old new t good refused = tt
 cookie_fault (Bad page kept found) Past old new t good refused = let sums : ℕ × ℕ = (kept, found) in not_bad sums (sym good ∙ refused.1.1 t)

@@ -17,3 +17,6 @@ pub mod DropBookLemmas
 pub mod NextEntryLemmas
 pub mod EntrySizeLemmas
 pub mod CreateBookLemmas
+pub mod RootCleanLemmas
+pub mod FirstEntryLemmas
+pub mod CreateCleanLemmas

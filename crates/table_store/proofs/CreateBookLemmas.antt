@@ -1,5 +1,5 @@
 -- A table made, where the pages have a book.
-use Rattle.std.proofs.Common.{◌≡◌, inl, inr, ℕ, ◌+◌, ◌-◌, ◌≤◌, nat_eq, Bool, false, cond, ℤ, List, [], ◌∷◌, ◌++◌, map, reverse, IsTrue, refl, sym, ap, subst, ◌∙◌, arith}
+use Rattle.std.proofs.Common.{◌≡◌, inl, inr, ℕ, ◌-◌, ◌≤◌, nat_eq, Bool, false, cond, ℤ, List, [], ◌∷◌, ◌++◌, map, reverse, IsTrue, refl, sym, ap, subst, ◌∙◌, arith}
 use Rattle.std.specs.List.{flat_map}
 use Rattle.std.specs.FinMap as map
 use Rattle.page_list.specs.Pages.{Pages, IsGood, AreSized, word}
@@ -10,9 +10,9 @@ use Rattle.db_format.specs.Create.{IsPlain}
 use Rattle.db_format.specs.declared.create.Create.{Create}
 use Rattle.db_format.specs.declared.value.Value.{Value}
 use Rattle.tree_model.specs.Tree.{Leaf}
-use Rattle.tree_laws.specs.Front.{FreelistFront, FrontKept}
+use Rattle.tree_laws.specs.Front.{FrontKept}
 use Rattle.rowid_tree.specs.Puts.{PutsRow, HasWholeTree}
-use Rattle.rowid_tree.specs.Roots.{AddsRoot, IsRootAdded}
+use Rattle.rowid_tree.specs.Roots.{AddsRoot}
 use Rattle.book_model.specs.Book.{Name, Row, Book, empty_book, taken_by, is_taken, next_of, next_entry, with_table}
 use Rattle.book_model.specs.Pages.{IsBookOf, IsBook}
 use Rattle.book_model.specs.Laws.{RecordHasSize}
@@ -24,7 +24,7 @@ use Rattle.book_changes.specs.Tables.{IsEntry, TableMade}
 use Rattle.book_changes.proofs.ChangeLemmas.{roots_in}
 use Rattle.table_store.specs.Books.{OfSpace}
 use Rattle.table_store.specs.Cookie.{next_cookie, cookie_of, CookieRaised}
-use Rattle.table_store.specs.Made.{taken_in, IsTakenIn, IsFreeIn, NameFree, FirstMade, Begins, IsEntryRecord, MakeDone, BookMade}
+use Rattle.table_store.specs.Made.{taken_in, IsTakenIn, IsFreeIn, FirstMade, Begins, IsEntryRecord, MakeDone, BookMade}
 use Rattle.table_store.proofs.FrontLemmas.{cookie_there, cookie_stays}
 use Rattle.table_store.proofs.CookieLemmas.{cookie_changes, cookie_next}
 use Rattle.table_store.proofs.EntrySizeLemmas.{entry_sized}

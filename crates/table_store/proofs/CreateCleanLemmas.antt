@@ -1,5 +1,5 @@
 -- A table not made, where the pages have a book.
-use Rattle.std.proofs.Common.{◌≡◌, ◌⊎◌, inl, inr, ℕ, ◌+◌, ◌-◌, ◌*◌, ◌≤◌, ◌<◌, false, ℤ, List, ◌∷◌, Some, IsTrue, Err, refl, sym, ap, subst, ◌∙◌, arith, mul-le-mul_right}
+use Rattle.std.proofs.Common.{◌≡◌, ◌⊎◌, inl, inr, ℕ, ◌+◌, ◌-◌, ◌*◌, ◌≤◌, ◌<◌, false, ℤ, ◌∷◌, IsTrue, refl, sym, ap, subst, ◌∙◌, arith, mul-le-mul_right}
 use Rattle.db_format.specs.Header.{greatest_length}
 use Rattle.db_format.specs.Create.{IsPlain}
 use Rattle.db_format.specs.declared.create.Create.{Create}
@@ -15,7 +15,7 @@ use Rattle.tree_search.specs.Search.{IsNoDamage}
 use Rattle.tree_laws.specs.Front.{FrontKept}
 use Rattle.rowid_tree.specs.Puts.{IsTooLarge}
 use Rattle.rowid_tree.specs.Roots.{RootRefused, AddsRoot}
-use Rattle.book_model.specs.Book.{Name, Book, empty_book, is_taken, next_entry}
+use Rattle.book_model.specs.Book.{Name, Book, is_taken, next_entry}
 use Rattle.book_model.specs.Pages.{IsBookOf, IsBook}
 use Rattle.book_model.specs.Laws.{RecordHasSize}
 use Rattle.book_reads.specs.Reads.{SchemaMeets}

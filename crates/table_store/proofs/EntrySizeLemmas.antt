@@ -1,5 +1,5 @@
 -- How many bytes the row of a plain table in the schema takes.
-use Rattle.std.proofs.Common.{◌≡◌, ℕ, ◌+◌, ◌*◌, ◌^◌, ◌≤◌, ◌<◌, nat_lt, ◌==◌, ℤ, pos, negsuc, Bool, true, false, cond, List, [], ◌∷◌, ◌++◌, length, get_or, codes, sum_by, arith, length-append}
+use Rattle.std.proofs.Common.{◌≡◌, ℕ, ◌+◌, ◌*◌, ◌^◌, ◌≤◌, nat_lt, ◌==◌, pos, Bool, true, false, cond, List, [], ◌∷◌, ◌++◌, length, get_or, codes, sum_by, arith, length-append}
 use Rattle.std.specs.Prelude.{unwrap_or, All}
 use Rattle.std.specs.List.{join_with_byte}
 use Rattle.std.specs.Int.{w64}
@@ -50,7 +50,9 @@ text_long table plain =
     let named = plain.named.short in
     let few = plain.columned.few in
     omega (
-      arith, named, few,
+      arith,
+      named,
+      few,
       columns_long table.columns plain.columned.each,
       length-append (codes "CREATE TABLE ") (table.name ++ (codes "(" ++ (inside ++ codes ")"))),
       length-append table.name (codes "(" ++ (inside ++ codes ")")),

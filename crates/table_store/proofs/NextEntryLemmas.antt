@@ -1,5 +1,5 @@
 -- The rowid that a new row of the schema gets is one that a row may have.
-use Rattle.std.proofs.Common.{◌≡◌, ℕ, suc, ◌+◌, ◌*◌, ◌^◌, ◌≤◌, ◌<◌, Bool, true, false, if◌then◌else◌, ℤ, pos, ◌+ℤ◌, ◌-ℤ◌, ◌<ℤ◌, ◌≤ℤ◌, List, [], ◌∷◌, ◌++◌, length, map, take, reverse, refl, sym, ap, subst, ◌∙◌, arith, length-append}
+use Rattle.std.proofs.Common.{◌≡◌, ℕ, ◌*◌, ◌^◌, ◌≤◌, ◌<◌, Bool, true, false, if◌then◌else◌, ℤ, pos, ◌+ℤ◌, ◌-ℤ◌, ◌<ℤ◌, ◌≤ℤ◌, List, [], ◌∷◌, length, map, reverse, sym, ap, subst, arith, length-append}
 use Rattle.std.proofs.lemmas.List.{length-map, length-reverse, length-take, reverse-append}
 use Rattle.std.specs.List.{AllByRecursion}
 use Rattle.std.specs.Ordering.{int_cmp, is_eq}
@@ -30,7 +30,9 @@ leaf_rows pages page rows has =
     let cells : List LeafCell = map (λ (row : Stored). row.cell) rows in
     let same = ap (λ (l : List Cell). length l) reads.cells_are in
     omega (
-      arith, same, reads.pointers_within,
+      arith,
+      same,
+      reads.pointers_within,
       length-take pages.usable (pages.bytes page),
       length-map rows (λ (row : Stored). row.cell),
       length-map cells leaf,

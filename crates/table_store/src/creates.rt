@@ -17,12 +17,13 @@ use crate::schema::SCHEMA_ROOT;
 use crate::writes::are_bytes;
 use book_changes::{first_page, first_table, large_entry, large_root, table_made};
 use book_model::record_has_size;
-use book_reads::{schema_read, tables_read};
+use book_reads::schema_read;
 use db_format::{Bytes, Create, Record, SpaceFault, Value, write_create, write_record};
 use page_pool::PageSpace;
 use rowid_tree::make_root;
 use std::alloc::{AllocError, Global};
 use tree_laws::front_kept;
+use tree_model::rows_rise;
 
 /// Makes a plain table without a row: takes a page for the root of its tree, puts its row into the schema, and raises the schema cookie.
 /// In a database of no pages page 1 is made first.
@@ -41,7 +42,6 @@ pub fn create<S: PageSpace>(alloc: Global, space: &mut S, table: &Create) -> Res
     ensures noted { NotesChange (S.state space.old) (S.state space.new) }
 {
     schema_read();
-    tables_read();
     record_has_size();
     first_page();
     first_table();
@@ -49,6 +49,7 @@ pub fn create<S: PageSpace>(alloc: Global, space: &mut S, table: &Create) -> Res
     large_root();
     large_entry();
     front_kept();
+    rows_rise();
     make_table(alloc, space, table)
 }
 

@@ -133,10 +133,10 @@ at_root : MakeLaws → (old new : SpaceState) (table : Create) (fault : SpaceFau
 at_root laws old new table fault book t steady b p name =
     let s : SpaceState = midway old p.begun in
     let page : old.page_size ≤ 65536 = omega (arith, steady.sized, steady.sizes.size_of_page.most) in
-    let where_in = begins_in old new p.begun table.name p.entry book t steady b p.before in
-    let own = has_book laws.page old p.begun.pages book where_in in
-    root_fault (MakesTooMuch old.page_size book table) s new fault (root_clean s new (1 ∷ roots_in own.is.found) (own.is.schema ∷ own.is.trees) own.is.trunks fault t own.is.whole.whole p.refused) p.refused
-    (λ n large. elim where_in as (λ _. MakesTooMuch old.page_size book table n) [
+    let begins = begins_in old new p.begun table.name p.entry book t steady b p.before in
+    let its = has_book laws.page old p.begun.pages book begins in
+    root_fault (MakesTooMuch old.page_size book table) s new fault (root_clean s new (1 ∷ roots_in its.is.found) (its.is.schema ∷ its.is.trees) its.is.trunks fault t its.is.whole.whole p.refused) p.refused
+    (λ n large. elim begins as (λ _. MakesTooMuch old.page_size book table n) [
       | inl whole ↦ root_large laws.root old new p.begun table book n t steady whole.0 whole.1 name.free large
       | inr first ↦ absurd (root_small s new n first.is.size page large)
     ])
@@ -147,19 +147,16 @@ at_entry : MakeLaws → (old new : SpaceState) (table : Create) (fault : SpaceFa
     → (p : StopsAtEntry old new table fault) → NewEntry book table.name p.entry → NoDamage (MakesTooMuch old.page_size book table) fault
 at_entry laws old new table fault book plain t steady b p name = by p.refused
   where
-    begun : Midway
-    begun = p.before.begun
-
     by : EntryRefused (midway old p.rooted) new table p.number p.entry fault → NoDamage (MakesTooMuch old.page_size book table) fault
     by (inl memory) = let P : SpaceFault → Type 0 = NoDamage (MakesTooMuch old.page_size book table) in subst P (sym memory.1) tt
     by (inr e) =
         let page : old.page_size ≤ 65536 = omega (arith, steady.sized, steady.sizes.size_of_page.most) in
-        let where_in = begins_in old new p.before.begun table.name p.entry book t steady b p.before.before in
-        let own = has_book laws.page old p.before.begun.pages book where_in in
+        let begins = begins_in old new p.before.begun table.name p.entry book t steady b p.before.before in
+        let its = has_book laws.page old p.before.begun.pages book begins in
         let adds = p.before.adds t in
-        let tree = rooted_schema p.before.begun.pages p.rooted.pages own.own p.number own.is adds in
+        let tree = rooted_schema p.before.begun.pages p.rooted.pages its.own p.number its.is adds in
         past_put (MakesTooMuch old.page_size book table) p.rooted.pages 1 p.entry e.payload old.page_size fault (soundly p.rooted.pages 1 fault tree (e.clean t)) (e.large t)
-        (λ n much. elim where_in as (λ _. MakesTooMuch old.page_size book table n) [
+        (λ n much. elim begins as (λ _. MakesTooMuch old.page_size book table n) [
           | inl whole ↦
               let A : Pages → Type 0 = λ pages. AddsRoot pages p.rooted.pages p.number in
               let L : ℤ → Type 0 = λ key. IsTooLarge p.rooted.pages 1 key e.payload old.page_size n in
@@ -187,8 +184,8 @@ at_cookie : MakeLaws → (old new : SpaceState) (table : Create) (fault : SpaceF
 at_cookie laws old new table fault book t steady b p =
     let r = p.before.before in
     let put = p.before.put in
-    let own = has_book laws.page old r.begun.pages book (begins_in old new r.begun table.name p.entry book t steady b r.before) in
-    let keeps = entry_keeps laws.kept r.begun.pages p.before.rooted.pages p.entered.pages own.own p.number p.entry put.payload put.replaced own.is (r.adds t) (put.puts t) in
+    let its = has_book laws.page old r.begun.pages book (begins_in old new r.begun table.name p.entry book t steady b r.before) in
+    let keeps = entry_keeps laws.kept r.begun.pages p.before.rooted.pages p.entered.pages its.own p.number p.entry put.payload put.replaced its.is (r.adds t) (put.puts t) in
     cookie_fault fault (MakesTooMuch old.page_size book table) (midway old p.entered) new t keeps.good p.refused
 
 -- ---- a table not made

@@ -13,8 +13,6 @@ mod handles;
 mod image;
 mod space;
 mod sure;
-#[cfg(test)]
-mod tests;
 
 pub use choice::{Edge, Fill, ImageChoice};
 pub use failing::{FailAt, MemVfs};

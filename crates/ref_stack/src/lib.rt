@@ -25,6 +25,3 @@ pub use quota::{Limits, group_of};
 pub use shown::{is_bad, through};
 pub use sums::{fails, sum_of, without_sums};
 pub use write::{Passing, pass};
-
-#[cfg(test)]
-mod tests;

@@ -6,8 +6,6 @@ mod ends;
 mod list_ends;
 mod read;
 mod reply;
-#[cfg(test)]
-mod tests;
 mod words;
 mod write;
 

@@ -9,8 +9,6 @@ mod rows;
 mod run;
 mod session;
 mod status;
-#[cfg(test)]
-mod tests;
 mod top;
 mod words;
 

@@ -1,18 +1,17 @@
 -- What the schema cookie, raised, leaves of the pages.
-use Rattle.std.proofs.Common.{◌≡◌, ◌≢◌, ◌⊎◌, inl, inr, ℕ, ◌+◌, ◌-◌, ◌%◌, ◌≤◌, ◌<◌, nat_eq, if◌then◌else◌, List, ◌++◌, length, slice_index, take, drop, replicate, IsTrue, Ok, Err, Result, OnOk, refl, sym, ap, subst, ◌∙◌, arith, length-append, length-drop}
+use Rattle.std.proofs.Common.{◌≡◌, ◌⊎◌, inl, inr, ℕ, ◌+◌, ◌-◌, ◌%◌, ◌≤◌, ◌<◌, if◌then◌else◌, List, ◌++◌, length, slice_index, take, drop, replicate, IsTrue, Ok, Err, Result, OnOk, sym, ap, subst, ◌∙◌, arith, length-append, length-drop}
 use Rattle.std.proofs.lemmas.List.{get_or-take, get_or-drop, length-take, length-take-le, length-replicate}
 use Rattle.std.proofs.lemmas.Grind.{same_number_lists}
 use Rattle.std.proofs.lemmas.Bool.{ne_eqb}
 use Rattle.byteorder.specs.Endian.{big_bytes}
 use Rattle.byteorder.specs.Numbers.{length-bytes_high_first}
 use Rattle.byte_base.specs.Numbers.{number_at, with_number}
-use Rattle.page_list.specs.Pages.{Pages, HasPage, IsGood, SamePage, AreSized, word}
+use Rattle.page_list.specs.Pages.{Pages, IsGood, SamePage, AreSized, word}
 use Rattle.page_list.specs.Edits.{with_page, cleared}
 use Rattle.page_list.proofs.NumberLemmas.{with-long, with-there, with-beside, with-other, cleared-long, cleared-below, cleared-number}
 use Rattle.page_list.proofs.EditLemmas.{page-here, page-beside}
 use Rattle.page_pool.specs.Space.{SpaceState, Steady, Stays, PutLeaves}
 use Rattle.db_format.specs.declared.fault.SpaceFault.{SpaceFault}
-use Rattle.tree_laws.specs.Front.{KeepsFields, FrontChanges}
 use Rattle.book_changes.specs.Changes.{CookieChanges}
 use Rattle.table_store.specs.Cookie.{next_cookie, cookie_of, with_next_cookie, CookieRaised}
 

@@ -11,6 +11,8 @@ ghost use Rattle.shell_top.specs.Status.{code_of};
 mod again;
 mod ends;
 #[cfg(test)]
+mod runs;
+#[cfg(test)]
 mod tests;
 
 use ends::{StdinSource, StdoutSink};

@@ -4,7 +4,7 @@ ghost use Rattle.std.specs.Prelude.{◌≡◌, length, Some, IfOk};
 ghost use Rattle.vfs_trait.specs.State.{NoneOpen, OpenStays};
 ghost use Rattle.mem_vfs.specs.Failing.{mem_state};
 
-use crate::{Edge, FailAt, Fill, ImageChoice, MemVfs, SureVfs};
+use mem_vfs::{Edge, FailAt, Fill, ImageChoice, MemVfs, SureVfs};
 use std::alloc::Global;
 use std::process::Abort;
 use std::test::Fail;

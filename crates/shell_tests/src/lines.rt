@@ -4,11 +4,11 @@
 ghost use Rattle.std.specs.Prelude.{IsTrue};
 ghost use Rattle.shell_lang.specs.Reply.{IsPrintable};
 
-use crate::{
+use db_format::{ByteLists, Bytes, Create, HeaderFault, Record, TableEntry, TableList, Value};
+use shell_lang::{
     Command, Db, ErrorWord, LineFault, Reply, RowList, ScanEnd, TableName, read_command,
     write_reply,
 };
-use db_format::{ByteLists, Bytes, Create, HeaderFault, Record, TableEntry, TableList, Value};
 use std::alloc::{AllocError, Global};
 use std::test::Fail;
 use vfs_model::Name;

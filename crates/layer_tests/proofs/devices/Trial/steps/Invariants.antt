@@ -1,7 +1,7 @@
 use Rattle.std.proofs.Common.{◌≡◌}
 use Rattle.vfs_trait.specs.State.{OpenStays}
 use Rattle.mem_vfs.specs.Failing.{mem_state}
-use Rattle.mem_vfs.proofs.tests.Trial.steps.Given as goal
+use Rattle.layer_tests.proofs.devices.Trial.steps.Given as goal
 
 abbrev pub invariant-loop-step : goal.invariant-loop-step
 invariant-loop-step g l = record {

@@ -4,8 +4,8 @@
 ghost use Rattle.std.specs.Prelude.{◌≡◌, []};
 ghost use Rattle.vfs_trait.specs.State.{NoneOpen};
 
-use crate::{ListSink, ListSource, Source, Status, SureSink, SureSource, vfsh_run};
 use mem_vfs::{FailAt, MemVfs, SureVfs};
+use shell_top::{ListSink, ListSource, Source, Status, SureSink, SureSource, vfsh_run};
 use std::alloc::{AllocError, Global};
 use std::test::Fail;
 use vfs_model::Name;

@@ -1,10 +1,10 @@
 //! Worked examples, by hand and from the formats.
 
-use crate::{
+use byte_base::Bytes;
+use ref_stack::{
     Limits, OpenFile, OpenFiles, Passing, chunk_name, fails, group_of, is_bad, lengths_shown,
     matches, next_start, pass, placed, sum_of, through,
 };
-use byte_base::Bytes;
 use std::alloc::{AllocError, Global};
 use std::test::Fail;
 use vfs_model::{Group, Groups, Layer, Name, Pattern, Placed};

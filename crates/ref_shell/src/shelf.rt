@@ -1,11 +1,11 @@
 //! What keeps a book.
 
-ghost use Rattle.std.specs.Prelude.{◌≡◌, ℕ, length, IfOk};
+ghost use Rattle.std.specs.Prelude.{◌≡◌, ◌↔◌, ◌==◌, ℕ, IsTrue, length, IfOk};
 ghost use Rattle.std.specs.FinMap as map;
 ghost use Rattle.book_model.specs.Book.{Book, is_plain, is_foreign, is_taken, table_at, has_row, with_table, without_table, with_row, without_row};
-ghost use Rattle.shell_model.specs.Cases.{row_reply, rows_reply, tables_listed};
+ghost use Rattle.shell_model.specs.Cases.{row_reply, rows_reply, tables_listed, too_many};
 ghost use Rattle.shell_lang.specs.declared.reply.Reply.TheVariants as reply;
-ghost use Rattle.ref_shell.specs.Shelf.{Becomes};
+ghost use Rattle.ref_shell.specs.Shelf.{Becomes, passes};
 
 use byte_base::{ByteLists, Bytes};
 use db_format::Record;
@@ -70,4 +70,20 @@ pub trait Shelf: Drop {
     /// The same without a table.
     fn without_table(&self, name: &Bytes) -> Result<Self, AllocError>
         ensures { IfOk result (λ shelf. Becomes (book self.now) (λ root. without_table (book self.now) name.now) (book shelf)) };
+
+    /// The same book, as a shelf of its own.
+    fn twin(&self) -> Result<Self, AllocError>
+        ensures { IfOk result (λ shelf. book shelf ≡ book self.now) };
+
+    /// Whether a number of pages is the least that passes the greatest database.
+    fn is_too_many(&self, pages: u32) -> bool
+        ensures { result ≡ (pages == too_many (book self.now)) };
+
+    /// Whether a change into another book may pass the greatest database.
+    fn may_pass(&self, changed: &Self) -> bool
+        ensures { result ≡ passes (book self.now) (book changed.now) };
+
+    /// The same of an empty table, wherever its root is.
+    fn table_may_pass(&self, name: &Bytes, columns: &ByteLists) -> Result<bool, AllocError>
+        ensures { IfOk result (λ may. IsTrue may ↔ ((root : ℕ) × IsTrue (passes (book self.now) (with_table (book self.now) name.now columns.now root)))) };
 }

@@ -2,4 +2,5 @@ pub mod Tests
 pub mod Rests
 pub mod Parts
 pub mod SessionLemmas
-pub mod Gives
+pub mod Passed
+pub mod Judged

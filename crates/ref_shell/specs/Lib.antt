@@ -2,4 +2,3 @@ pub mod Shelf
 pub mod Machine
 pub mod Part
 pub mod Session
-pub mod Judge

@@ -5,10 +5,10 @@
 mod judge;
 mod levels;
 mod machine;
+mod same;
 mod session;
 mod shelf;
 
-pub use judge::FreeReply;
 pub use machine::{Draft, Machine};
 pub use session::run;
 pub use shelf::Shelf;

@@ -1,4 +1,4 @@
-use Rattle.std.proofs.Common.{refl, ap}
+use Rattle.std.proofs.Common.{ap}
 use Rattle.std.specs.FinMap as map
 use Rattle.shell_lang.specs.declared.command.Command.TheVariants as command
 use Rattle.shell_lang.specs.declared.reply.Reply.{Reply}

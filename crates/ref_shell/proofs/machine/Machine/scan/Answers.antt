@@ -1,4 +1,4 @@
-use Rattle.std.proofs.Common.{refl, ap, inr}
+use Rattle.std.proofs.Common.{ap, inr}
 use Rattle.shell_lang.specs.declared.command.Command.TheVariants as command
 use Rattle.shell_lang.specs.declared.reply.Reply.{Reply}
 use Rattle.book_model.specs.Book.{Book, table_at}

@@ -5,6 +5,8 @@
 #[cfg(test)]
 mod judged;
 #[cfg(test)]
+mod large;
+#[cfg(test)]
 mod lines;
 #[cfg(test)]
 mod runs;

@@ -1,13 +1,14 @@
 -- Bytes of a file as a commit writes them, page after page, and what its steps keep of the stack.
-use Rattle.std.proofs.Common.{◌≡◌, ℕ, ◌+◌, ◌-◌, ◌*◌, ◌/◌, ◌<◌, ◌≤◌, ◌∙◌, min, Bool, List, [], length, take, drop, slice_get, IsTrue, unwrap_or, Result, Ok, Err, OnOk, inl, inr, sym, ap, subst, arith, length-drop}
+use Rattle.std.proofs.Common.{false, ◌≡◌, ℕ, ◌+◌, ◌-◌, ◌*◌, ◌/◌, ◌<◌, ◌≤◌, ◌∙◌, min, Bool, List, [], length, take, drop, slice_get, IsTrue, unwrap_or, Result, Ok, Err, OnOk, inl, inr, sym, ap, subst, arith, length-drop}
 use Rattle.std.proofs.Math.Nat.{mul-le-mul_right, mul-div_cancel}
 use Rattle.std.proofs.lemmas.Bool.{cases_eq}
 use Rattle.std.proofs.lemmas.List.{length-take}
 use Rattle.vfs_model.specs.Places.{get-take, get-drop, same_places}
 use Rattle.vfs_model.specs.File.{FileState}
-use Rattle.vfs_model.specs.Effect.{Wrote, Cut}
+use Rattle.vfs_model.specs.Effect.{NoLooser, Wrote, Cut}
 use Rattle.vfs_trait.specs.State.{StackState, Steady, OpenStays, file_at, name_at}
-use Rattle.vfs_trait.specs.Calls.{Leaves, FilesLeft}
+use Rattle.vfs_trait.specs.Calls.{Leaves, FilesLeft, SyncLeaves}
+use Rattle.vfs_trait.specs.declared.fault.VfsFault.{VfsFault}
 use Rattle.vfs_model.specs.Store.{OthersStay}
 use Rattle.vfs_model.specs.Laws.{LooserTwice}
 use Rattle.vfs_model.specs.declared.layer.Layer.{Layer}
@@ -16,7 +17,7 @@ use Rattle.pager_core.specs.File.{page_in}
 use Rattle.pager_core.specs.declared.fault.PagerFault.{PagerFault}
 use Rattle.pager_core.specs.declared.fault.PagerFault.TheVariants.{Failed, Memory, MemoryAfter, Busy, Worn, Bad}
 use Rattle.page_list.specs.Edits.{with_page}
-use Rattle.pager_core.specs.Commit.{KeepsBut, HasLaid, HasLaidPage, HasWritten, IsFileOf, OthersLeft, CommitFiles, StepFails, IsNextFirst, IsCommitted}
+use Rattle.pager_core.specs.Commit.{KeepsBut, HasLaid, HasLaidPage, HasWritten, IsFileOf, IsSynced, OthersLeft, CommitFiles, StepFails, IsNextFirst, IsCommitted}
 
 -- ---- the file of an open number
 
@@ -178,3 +179,29 @@ committed size old new first next is =
 
 pub same_file : (size : ℕ) (bytes bytes' : List ℕ) (pages pages' : Pages) → bytes' ≡ bytes → pages' ≡ pages → IsFileOf size bytes pages → IsFileOf size bytes' pages'
 same_file size bytes bytes' pages pages' is are h = subst (λ xs. IsFileOf size xs pages') (sym is) (subst (IsFileOf size bytes) (sym are) h)
+
+-- ---- what a stop leaves
+
+pub synced_after : (mid new : FileState) (told : Type 0) (r : Result Unit VfsFault) → (told → SyncLeaves mid new r) → OnOk r (told → IsSynced new)
+synced_after mid new told (Ok x) h = λ t. (h t).content
+synced_after mid new told (Err e) h = tt
+
+pub still_synced : (old new : FileState) → NoLooser old new → IsSynced old → IsSynced new
+still_synced old new h synced tame =
+    let was : old.wild ≡ false = h.was_tame tame in
+    let content = synced was in
+    let stop = h.stop was in
+    let same : length new.now.bytes ≡ length old.now.bytes = ap (λ found. length found.bytes) h.now in
+    record {
+      shortest = omega (arith, same, content.shortest, stop.floor_is);
+      longest = omega (arith, same, content.longest, stop.reach_is);
+      synced = λ place within.
+          let inside : place < length old.now.bytes = omega (arith, same, within) in
+          (stop.kept place tt (record { tame = was; below = omega (arith, inside, content.shortest); synced = content.synced place inside })).synced;
+    }
+
+-- a call that leaves the files leaves that
+pub synced_stays : (a b : StackState) (fid : ℕ) → OpenStays a b → FilesLeft a b → IsTrue a.tells → IsSynced (file_at a fid) → IsSynced (file_at b fid)
+synced_stays a b fid opens left told synced =
+    let P : List ℕ → Type 0 = λ name. IsSynced (b.files name) in
+    subst P (sym (name_stays a b fid opens)) (still_synced (file_at a fid) (b.files (name_at a fid)) ((left told).each (name_at a fid)) synced)

@@ -8,6 +8,7 @@ use Rattle.db_format.specs.declared.header.Header.{Header}
 use Rattle.page_list.specs.Pages.{Pages, HasPage, IsGood, word}
 use Rattle.page_list.specs.Edits.{with_page}
 use Rattle.page_draft.specs.Draft.{read_pages, IsClean}
+use Rattle.vfs_model.specs.File.{FileState, HasOneContent}
 use Rattle.vfs_model.specs.Store.{OthersStay}
 use Rattle.vfs_model.specs.Lock.{IsUnhindered, level_at, rank, Grants, Refuses, Lowers}
 use Rattle.vfs_model.specs.declared.level.Level.{Level}
@@ -70,6 +71,10 @@ pub record IsCommitted (page_size : ℕ) (old new : Pages) : Type 0 where
 pub record IsFileOf (page_size : ℕ) (bytes : List ℕ) (pages : Pages) : Type 0 where
   pub long : length bytes ≡ pages.size * page_size
   pub shows : Shows page_size bytes pages
+
+-- a stop that leaves a file leaves its content as it is now, unless it is wild
+abbrev pub IsSynced : FileState → Type 0
+IsSynced file = file.wild ≡ false → HasOneContent file
 
 -- the pager is that of the same file, with pages of the same size
 pub record SamePager (old new : Pager) : Type 0 where

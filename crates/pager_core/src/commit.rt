@@ -12,7 +12,7 @@ ghost use Rattle.vfs_trait.specs.Calls.{Caused, FilesLeft, LocksAt};
 ghost use Rattle.pager_core.specs.File.{Shows};
 ghost use Rattle.pager_core.specs.Locks.{Asks};
 ghost use Rattle.pager_core.specs.Seen.{seen, Fits, SameFile};
-ghost use Rattle.pager_core.specs.Commit.{IsPlain, commits, MayCount, next_header, IsNextFirst, IsFileOf, SamePager, Drops, CommitCaused, CommitLeaves, CommitLevels, CommitFiles, EndsIdle, EndsCommit, FirstCaused, KeepsBut, StepFails, HasLaid, HasLaidPage, HasWritten};
+ghost use Rattle.pager_core.specs.Commit.{IsPlain, commits, MayCount, next_header, IsNextFirst, IsFileOf, IsSynced, SamePager, Drops, CommitCaused, CommitLeaves, CommitLevels, CommitFiles, EndsIdle, EndsCommit, FirstCaused, KeepsBut, StepFails, HasLaid, HasLaidPage, HasWritten};
 
 use crate::fault::PagerFault;
 use crate::pager::Pager;
@@ -44,6 +44,7 @@ impl Pager {
         ensures idle { commits self.old who ≡ false → EndsIdle self.old self.new (V.state stack.old) (V.state stack.new) who result }
         ensures commit { commits self.old who ≡ true → EndsCommit self.old self.new (V.state stack.old) (V.state stack.new) who result }
         ensures written { OnOk result (commits self.old who ≡ true → IsTrue (V.state stack.old).tells → IsFileOf self.old.pages.page_size (file_at (V.state stack.new) self.old.fid.0).now.bytes (read_pages self.new.pages)) }
+        ensures synced { OnOk result (commits self.old who ≡ true → IsTrue (V.state stack.old).tells → IsSynced (file_at (V.state stack.new) self.old.fid.0)) }
         ensures shows { OnOk result (IsTrue (V.state stack.old).tells → Shows self.old.pages.page_size (file_at (V.state stack.new) self.old.fid.0).now.bytes (read_pages self.new.pages)) }
     {
         if self.commits(who) {
@@ -108,6 +109,7 @@ impl Pager {
         ensures levels { LocksAt (V.state stack.old) (V.state stack.new) self.old.fid.0 (CommitLevels who result) }
         ensures files { CommitFiles (V.state stack.old) (V.state stack.new) self.old.fid.0 result }
         ensures written { OnOk result (IsTrue (V.state stack.old).tells → IsFileOf self.old.pages.page_size (file_at (V.state stack.new) self.old.fid.0).now.bytes (read_pages self.new.pages)) }
+        ensures synced { OnOk result (IsTrue (V.state stack.old).tells → IsSynced (file_at (V.state stack.new) self.old.fid.0)) }
     {
         looser_twice();
         kept_twice();
@@ -147,6 +149,7 @@ impl Pager {
         ensures owner { self.new.owner ≡ self.old.owner }
         ensures put { OnOk result (now_pages self.new.pages ≡ with_page 1 first (now_pages self.old.pages)) }
         ensures written { OnOk result (IsTrue (V.state stack.old).tells → IsFileOf self.old.pages.page_size (file_at (V.state stack.new) self.old.fid.0).now.bytes (now_pages self.new.pages)) }
+        ensures synced { OnOk result (IsTrue (V.state stack.old).tells → IsSynced (file_at (V.state stack.new) self.old.fid.0)) }
     {
         if self.pages.put_bytes(1, first).is_err() {
             return Err(PagerFault::MemoryAfter);
@@ -239,6 +242,7 @@ fn write_file<V: Vfs>(pages: &PageDraft, stack: &mut V, fid: Fid) -> Result<(), 
     ensures keeps { KeepsBut (V.state stack.old) (V.state stack.new) fid.0 }
     ensures cause { IfErr result (StepFails (V.state stack.old) (V.state stack.new)) }
     ensures written { OnOk result (IsTrue (V.state stack.old).tells → IsFileOf pages.now.page_size (file_at (V.state stack.new) fid.0).now.bytes (now_pages pages.now)) }
+    ensures synced { OnOk result (IsTrue (V.state stack.old).tells → IsSynced (file_at (V.state stack.new) fid.0)) }
 {
     looser_twice();
     write_pages(pages, stack, fid)?;
@@ -313,6 +317,7 @@ fn cut_and_sync<V: Vfs>(stack: &mut V, fid: Fid, len: u64) -> Result<(), PagerFa
     ensures keeps { KeepsBut (V.state stack.old) (V.state stack.new) fid.0 }
     ensures cause { IfErr result (StepFails (V.state stack.old) (V.state stack.new)) }
     ensures cut { OnOk result (IsTrue (V.state stack.old).tells → (file_at (V.state stack.new) fid.0).now.bytes ≡ take len (file_at (V.state stack.old) fid.0).now.bytes) }
+    ensures synced { OnOk result (IsTrue (V.state stack.old).tells → IsSynced (file_at (V.state stack.new) fid.0)) }
 {
     match cut_then_sync(stack, fid, len) {
         Ok(()) => Ok(()),
@@ -329,6 +334,7 @@ fn cut_then_sync<V: Vfs>(stack: &mut V, fid: Fid, len: u64) -> Result<(), VfsFau
     ensures keeps { KeepsBut (V.state stack.old) (V.state stack.new) fid.0 }
     ensures cause { Caused (V.state stack.old) (V.state stack.new) result }
     ensures cut { OnOk result (IsTrue (V.state stack.old).tells → (file_at (V.state stack.new) fid.0).now.bytes ≡ take len (file_at (V.state stack.old) fid.0).now.bytes) }
+    ensures synced { OnOk result (IsTrue (V.state stack.old).tells → IsSynced (file_at (V.state stack.new) fid.0)) }
 {
     looser_twice();
     stack.cut(fid, len)?;

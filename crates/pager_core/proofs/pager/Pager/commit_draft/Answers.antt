@@ -9,7 +9,7 @@ use Rattle.page_list.specs.Pages.{Pages}
 use Rattle.page_draft.specs.Draft.{now_pages, read_pages}
 use Rattle.pager_core.specs.Commit.{CommitFiles, IsCommitted}
 use Rattle.pager_core.specs.declared.fault.PagerFault.{PagerFault}
-use Rattle.pager_core.proofs.CommitLemmas.{failed_files, others_after_files, files_after_others, committed, same_file, file_stays}
+use Rattle.pager_core.proofs.CommitLemmas.{failed_files, others_after_files, files_after_others, committed, same_file, file_stays, synced_stays}
 use Rattle.pager_core.proofs.LevelLemmas.{raised_and_lowered, owner_holds, own_seen}
 use Rattle.pager_core.proofs.pager.Pager.commit_draft.Goals as goal
 
@@ -82,3 +82,10 @@ returns-clause-written g c = λ told.
     let wrote = c.write_all.ensures.keeps.steady.tells ∙ asked in
     same_file c.args.self.now.pages.page_size (file_at d fid).now.bytes (file_at e fid).now.bytes (now_pages c.write_all.new.self.pages) (read_pages c.finish.new.self.pages)
     (ap (λ found. found.bytes) (file_stays d e fid c.finish.ensures.opens c.finish.ensures.files wrote)) c.finish.ensures.kept (c.in_ok-write_all.ensures.written asked)
+
+pub returns-clause-synced : goal.returns-clause-synced
+returns-clause-synced g c = λ told.
+    let d = g.V.Vfs.state c.write_all.new.stack in
+    let e = g.V.Vfs.state c.finish.new.stack in
+    let asked = c.ask_alone.ensures.steady.tells ∙ told in
+    synced_stays d e c.args.self.now.fid.0 c.finish.ensures.opens c.finish.ensures.files (c.write_all.ensures.keeps.steady.tells ∙ asked) (c.in_ok-write_all.ensures.synced asked)

@@ -65,7 +65,7 @@ put_pages pages usable place number content is there = λ i. record {
 
 -- ---- a page more
 
-more_at : (pages : List Shown) (page : Shown) (n : ℕ) → page_at (pages ++ page ∷ []) n ≡ (if nat_eq n (length pages + 1) then page else page_at pages n)
+pub more_at : (pages : List Shown) (page : Shown) (n : ℕ) → page_at (pages ++ page ∷ []) n ≡ (if nat_eq n (length pages + 1) then page else page_at pages n)
 more_at pages page zero = rw (ne_eqb 0 (length pages + 1) (λ e. omega (arith, e))) refl
 more_at [] page (suc zero) = refl
 more_at [] page (suc (suc n)) = rw (ne_eqb (suc (suc n)) 1 (λ e. omega (arith, e))) refl

@@ -1,5 +1,5 @@
 -- A page as it was read, as it was at the mark, and as it is now; and lists of such pages.
-use Rattle.std.specs.Prelude.{◌≡◌, ℕ, zero, suc, ◌<◌, List, [], length, replicate, slice_index_or, Option, Some, None}
+use Rattle.std.specs.Prelude.{◌≡◌, ℕ, zero, suc, ◌<◌, ◌≤◌, List, [], length, replicate, slice_index_or, Option, Some, None}
 use Rattle.page_list.specs.Pages.{Pages}
 use Rattle.page_draft.specs.declared.slot.ReadPage.{ReadPage}
 use Rattle.page_draft.specs.declared.slot.ReadPage.TheVariants as read
@@ -70,3 +70,7 @@ pages_of usable pages = record {
 -- each has as many bytes as a page has
 abbrev pub AllLong : ℕ → List Shown → Type 0
 AllLong page_size pages = (place : ℕ) → place < length pages → length (slice_index_or pages place no_page).bytes ≡ page_size
+
+-- from this place on each has what it was given, and none fails a checksum
+abbrev pub AllGoodFrom : ℕ → List Shown → Type 0
+AllGoodFrom from pages = (place : ℕ) → from ≤ place → place < length pages → (slice_index_or pages place no_page).bad ≡ None

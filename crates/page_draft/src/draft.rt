@@ -2,7 +2,7 @@
 
 ghost use Rattle.std.specs.Prelude.{◌≡◌, ◌+◌, ◌*◌, ◌≤◌, length, take, map, replicate, IfOk, IfErr};
 ghost use Rattle.db_format.specs.Header.{greatest_length, IsPageSize};
-ghost use Rattle.page_draft.specs.Slots.{read_of, marked_of, now_of, AllLong};
+ghost use Rattle.page_draft.specs.Slots.{read_of, marked_of, now_of, AllLong, AllGoodFrom};
 
 use crate::slot::{Change, ReadPage, Slot, change_all};
 use byte_base::Bytes;
@@ -35,6 +35,7 @@ pub struct PageDraft {
     ghost read_long: { AllLong page_size (take read_len (map (read_of page_size) slots.items)) },
     ghost marked_long: { AllLong page_size (take marked_len (map (marked_of page_size) slots.items)) },
     ghost now_long: { AllLong page_size (map (now_of page_size) slots.items) },
+    ghost added_good: { AllGoodFrom read_len (map (read_of page_size) slots.items) },
 }
 
 impl PageDraft {
@@ -119,13 +120,14 @@ impl PageDraft {
         Ok(())
     }
 
-    /// The bytes of a page as it is now. Refused with `Bad` alone, just where it fails its checksum.
+    /// The bytes of a page as it is now. Refused with `Bad` alone, just where it fails its checksum, as only one that was read does.
     pub fn page(&self, number: u32) -> Result<&[u8], SpaceFault>
         requires there { HasPage (now_pages self.now) number }
         ensures good { OnOk result (IsGood (now_pages self.now) number) }
         ensures long { IfOk result (λ bytes. length bytes.now ≡ self.now.page_size) }
         ensures bytes { IfOk result (λ bytes. bytes.now ≡ (now_pages self.now).bytes number) }
         ensures refused { IfErr result (IsBad (now_pages self.now) number) }
+        ensures was_read { OnErr result (number ≤ (read_pages self.now).size) }
     {
         let slot = &self.slots[number as usize - 1];
         match slot.as_now() {
@@ -169,8 +171,23 @@ impl PageDraft {
         ensures stays { OnErr result (Stays self.old self.new) }
     {
         let copy = Bytes::copy_of(self.alloc, bytes)?;
+        self.put_bytes(number, copy)
+    }
+
+    /// Puts a page whose bytes the caller owns. It takes no memory. Refused with `Bad` alone, just where the page that is there fails its
+    /// checksum: nothing has changed.
+    pub fn put_bytes(&mut self, number: u32, bytes: Bytes) -> Result<(), SpaceFault>
+        requires there { HasPage (now_pages self.old) number }
+        requires one_page { length bytes ≡ self.old.page_size }
+        ensures keeps { KeepsMark self.old self.new }
+        ensures good { OnOk result (IsGood (now_pages self.old) number) }
+        ensures put { OnOk result (now_pages self.new ≡ with_page number bytes (now_pages self.old)) }
+        ensures changed { OnOk result (self.new.changed ≡ true) }
+        ensures refused { IfErr result (IsBad (now_pages self.old) number) }
+        ensures stays { OnErr result (Stays self.old self.new) }
+    {
         self.page(number)?;
-        self.slots[number as usize - 1].put = Some(copy);
+        self.slots[number as usize - 1].put = Some(bytes);
         self.changed = true;
         Ok(())
     }

@@ -1,6 +1,7 @@
 //! The pages of a database that is open over a stack, as its connections see them.
 #![tactic(auto)]
 
+mod commit;
 mod fault;
 mod locks;
 mod pager;

@@ -6,7 +6,7 @@ use Rattle.page_draft.specs.declared.draft.PageDraft.{PageDraft}
 use Rattle.page_draft.specs.Draft.{read_list}
 use Rattle.page_draft.specs.Slots.{changed_slot}
 use Rattle.page_draft.specs.declared.slot.Change.TheVariants.{Discard}
-use Rattle.page_draft.proofs.ChangeLemmas.{discards-read, discards-marked, discards-now, long-as, first-shown}
+use Rattle.page_draft.proofs.ChangeLemmas.{discards-read, discards-marked, discards-now, long-as, good-as, good-first, first-shown}
 use Rattle.page_draft.proofs.draft.PageDraft.discard.Goals as goal
 
 -- the slots that were read, changed
@@ -53,3 +53,10 @@ returns-clause-clean c =
       unchanged = refl;
       unmarked = refl;
     }
+
+pub invariant_of-self-clause-added_good : goal.invariant_of-self-clause-added_good
+invariant_of-self-clause-added_good c =
+    let old = c.args.self.now in
+    good-as (ap (map (read_of old.page_size)) (c.change_all.ensures ∙ ap (map (changed_slot Discard)) c.truncate.ensures.items)
+    ∙ discards-read old.page_size (take old.read_len old.slots.items) ∙ sym (take-map (read_of old.page_size) old.read_len old.slots.items))
+    (good-first old.read_len old.read_len (map (read_of old.page_size) old.slots.items) old.added_good)

@@ -1,10 +1,10 @@
-use Rattle.std.proofs.Common.{◌*◌, ◌∙◌, ◌++◌, ◌∷◌, [], sym, ap, map, take, length, arith, subst, ◌≤◌}
+use Rattle.std.proofs.Common.{refl, ◌*◌, ◌∙◌, ◌++◌, ◌∷◌, [], sym, ap, map, take, length, arith, subst, ◌≤◌}
 use Rattle.std.proofs.lemmas.List.{length-replicate}
 use Rattle.db_format.specs.Header.{greatest_length}
 use Rattle.page_draft.specs.Slots.{good, read_of, marked_of, now_of, pages_of}
 use Rattle.page_draft.specs.Draft.{now_list}
 use Rattle.page_draft.proofs.ListLemmas.{grown_pages, long-more}
-use Rattle.page_draft.proofs.ChangeLemmas.{long-as}
+use Rattle.page_draft.proofs.ChangeLemmas.{long-as, good-as, good-more}
 use Rattle.page_draft.proofs.StepLemmas.{first-stay, shown-more}
 use Rattle.page_draft.proofs.draft.PageDraft.grow.Goals as goal
 
@@ -23,6 +23,7 @@ invariant_of-self c =
       read_long = long-as (ap (λ slots. take d.read_len (map (read_of d.page_size) slots)) is) d.read_long;
       marked_long = long-as (ap (λ slots. take d.marked_len (map (marked_of d.page_size) slots)) is) d.marked_long;
       now_long = long-as (ap (map (now_of d.page_size)) is) d.now_long;
+      added_good = good-as (ap (map (read_of d.page_size)) is) d.added_good;
     }
 
 pub invariant_of-self-2-clause-read_long : goal.invariant_of-self-2-clause-read_long
@@ -49,3 +50,9 @@ returns-clause-grown c =
     ap (pages_of d.usable) (ap (map (now_of d.page_size)) c.in_ok-push.ensures.items ∙ shown-more (now_of d.page_size) d.slots.items _
     ∙ ap (λ bytes. now_list d ++ good bytes ∷ []) (c.in_ok-zeros.ensures))
     ∙ grown_pages (now_list d) d.usable d.page_size
+
+pub invariant_of-self-2-clause-added_good : goal.invariant_of-self-2-clause-added_good
+invariant_of-self-2-clause-added_good c =
+    let d = c.args.self.now in
+    good-as (ap (map (read_of d.page_size)) c.in_ok-push.ensures.items ∙ shown-more (read_of d.page_size) d.slots.items _)
+    (good-more d.read_len (map (read_of d.page_size) d.slots.items) _ d.added_good refl)

@@ -1,11 +1,11 @@
-use Rattle.std.proofs.Common.{◌≡◌, ℕ, length, ◌∙◌, refl, sym, ap, List, map, take}
+use Rattle.std.proofs.Common.{arith, ◌≡◌, ℕ, length, ◌∙◌, refl, sym, ap, List, map, take}
 use Rattle.page_draft.specs.Slots.{read_of, marked_of, now_of}
 use Rattle.page_draft.specs.declared.slot.Slot.{Slot}
 use Rattle.page_draft.specs.declared.draft.PageDraft.{PageDraft}
 use Rattle.page_draft.specs.Draft.{now_list}
 use Rattle.page_draft.specs.Slots.{changed_slot}
 use Rattle.page_draft.specs.declared.slot.Change.TheVariants.{Keep}
-use Rattle.page_draft.proofs.ChangeLemmas.{keeps-read, keeps-marked, keeps-now, long-as, take-shown}
+use Rattle.page_draft.proofs.ChangeLemmas.{keeps-read, keeps-marked, keeps-now, long-as, good-none, take-shown}
 use Rattle.page_draft.proofs.draft.PageDraft.keep.Goals as goal
 
 -- all slots, changed
@@ -41,3 +41,7 @@ returns-clause-clean c =
       unchanged = refl;
       unmarked = refl;
     }
+
+pub invariant_of-self-clause-added_good : goal.invariant_of-self-clause-added_good
+invariant_of-self-clause-added_good c =
+    good-none (read_of c.args.self.now.page_size) c.len-self.result c.change_all.new.slots.items (omega (arith, c.len-self.ensures ∙ c.change_all.new.slots.ok.0))

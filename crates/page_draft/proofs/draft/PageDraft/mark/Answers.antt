@@ -1,6 +1,6 @@
 use Rattle.std.proofs.Common.{◌∙◌, refl, sym, ap, map, take}
 use Rattle.page_draft.specs.Slots.{read_of, marked_of, now_of}
-use Rattle.page_draft.proofs.ChangeLemmas.{marks-read, marks-marked, marks-now, long-as, take-shown}
+use Rattle.page_draft.proofs.ChangeLemmas.{marks-read, marks-marked, marks-now, long-as, good-as, take-shown}
 use Rattle.page_draft.proofs.draft.PageDraft.mark.Goals as goal
 
 pub invariant_of-self-clause-read_long : goal.invariant_of-self-clause-read_long
@@ -37,3 +37,8 @@ returns-clause-marked c =
     let old = c.args.self.now in
     take-shown (marked_of old.page_size) c.len-self.result c.change_all.new.slots.items (sym (c.len-self.ensures ∙ c.change_all.new.slots.ok.0))
     ∙ ap (map (marked_of old.page_size)) c.change_all.ensures ∙ marks-marked old.page_size old.slots.items
+
+pub invariant_of-self-clause-added_good : goal.invariant_of-self-clause-added_good
+invariant_of-self-clause-added_good c =
+    let old = c.args.self.now in
+    good-as (ap (map (read_of old.page_size)) c.change_all.ensures ∙ marks-read old.page_size old.slots.items) old.added_good

@@ -1,9 +1,9 @@
-use Rattle.std.proofs.Common.{subst, length, ◌*◌, ◌≤◌, ◌∙◌, ◌++◌, ◌∷◌, [], sym, ap, map, take}
+use Rattle.std.proofs.Common.{arith, subst, length, ◌*◌, ◌≤◌, ◌∙◌, ◌++◌, ◌∷◌, [], sym, ap, map, take}
 use Rattle.db_format.specs.Header.{greatest_length}
 use Rattle.page_draft.specs.Slots.{shown, read_of, marked_of, now_of, pages_of}
 use Rattle.page_draft.specs.Draft.{read_list}
 use Rattle.page_draft.proofs.ListLemmas.{more_pages, long-more}
-use Rattle.page_draft.proofs.ChangeLemmas.{long-as}
+use Rattle.page_draft.proofs.ChangeLemmas.{long-as, good-as, good-none}
 use Rattle.page_draft.proofs.StepLemmas.{more-read, more-marked, more-now}
 use Rattle.page_draft.proofs.draft.PageDraft.push_read.Goals as goal
 
@@ -22,6 +22,7 @@ invariant_of-self c =
       read_long = long-as (ap (λ slots. take d.read_len (map (read_of d.page_size) slots)) is) d.read_long;
       marked_long = long-as (ap (λ slots. take d.marked_len (map (marked_of d.page_size) slots)) is) d.marked_long;
       now_long = long-as (ap (map (now_of d.page_size)) is) d.now_long;
+      added_good = good-as (ap (map (read_of d.page_size)) is) d.added_good;
     }
 
 pub invariant_of-self-2-clause-read_long : goal.invariant_of-self-2-clause-read_long
@@ -47,3 +48,7 @@ returns-clause-pages c =
     let old = c.args.self.now in
     ap (pages_of old.usable) (more-read old _ c.push.new.self.items c.args.page c.requires.clean (c.in_ok-push.ensures.items ∙ ap (λ slot. old.slots.items ++ slot ∷ []) c.read.ensures) (sym (c.len-self.ensures ∙ c.push.new.self.ok.0)))
     ∙ more_pages (read_list old) old.usable (shown old.page_size c.args.page)
+
+pub invariant_of-self-2-clause-added_good : goal.invariant_of-self-2-clause-added_good
+invariant_of-self-2-clause-added_good c =
+    good-none (read_of c.args.self.now.page_size) c.len-self.result c.push.new.self.items (omega (arith, c.len-self.ensures ∙ c.push.new.self.ok.0))

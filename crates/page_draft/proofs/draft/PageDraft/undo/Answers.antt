@@ -6,7 +6,7 @@ use Rattle.page_draft.specs.declared.draft.PageDraft.{PageDraft}
 use Rattle.page_draft.specs.Draft.{read_list, marked_list}
 use Rattle.page_draft.specs.Slots.{changed_slot}
 use Rattle.page_draft.specs.declared.slot.Change.TheVariants.{Undo}
-use Rattle.page_draft.proofs.ChangeLemmas.{undoes-read, undoes-marked, undoes-now, long-as, first-shown}
+use Rattle.page_draft.proofs.ChangeLemmas.{undoes-read, undoes-marked, undoes-now, long-as, good-as, good-first, first-shown}
 use Rattle.page_draft.proofs.draft.PageDraft.undo.Goals as goal
 
 -- the slots up to the mark, changed
@@ -47,3 +47,10 @@ returns-clause-keeps c =
 
 pub returns-clause-now : goal.returns-clause-now
 returns-clause-now c = now_as c.args.self.now c.change_all.new.slots.items (c.change_all.ensures ∙ ap (map (changed_slot Undo)) c.truncate.ensures.items)
+
+pub invariant_of-self-clause-added_good : goal.invariant_of-self-clause-added_good
+invariant_of-self-clause-added_good c =
+    let old = c.args.self.now in
+    good-as (ap (map (read_of old.page_size)) (c.change_all.ensures ∙ ap (map (changed_slot Undo)) c.truncate.ensures.items)
+    ∙ undoes-read old.page_size (take old.marked_len old.slots.items) ∙ sym (take-map (read_of old.page_size) old.marked_len old.slots.items))
+    (good-first old.read_len old.marked_len (map (read_of old.page_size) old.slots.items) old.added_good)

@@ -1,3 +1,4 @@
 pub mod Seen
 pub mod Locks
 pub mod File
+pub mod Leave

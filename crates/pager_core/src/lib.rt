@@ -2,6 +2,7 @@
 #![tactic(auto)]
 
 mod fault;
+mod leave;
 mod locks;
 mod pager;
 mod space;

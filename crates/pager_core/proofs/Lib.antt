@@ -1,1 +1,3 @@
 pub mod LowerLemmas
+pub mod StackLemmas
+pub mod OpenLemmas

@@ -2,3 +2,4 @@ pub mod Seen
 pub mod Locks
 pub mod File
 pub mod Leave
+pub mod Open

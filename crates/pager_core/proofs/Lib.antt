@@ -1,2 +1,5 @@
 pub mod CommitLemmas
 pub mod LevelLemmas
+pub mod LowerLemmas
+pub mod StackLemmas
+pub mod OpenLemmas

@@ -2,3 +2,5 @@ pub mod Seen
 pub mod Locks
 pub mod File
 pub mod Commit
+pub mod Leave
+pub mod Open

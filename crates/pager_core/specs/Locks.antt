@@ -3,7 +3,7 @@ use Rattle.std.specs.Prelude.{◌≡◌, ℕ, ◌≤◌, List, Result, Ok, Err}
 use Rattle.vfs_model.specs.Lock.{IsOwner, level_at, rank, Grants, Refuses}
 use Rattle.vfs_model.specs.declared.level.Level.{Level}
 use Rattle.pager_core.specs.declared.fault.PagerFault.{PagerFault}
-use Rattle.pager_core.specs.declared.fault.PagerFault.TheVariants.{Failed, Memory, MemoryAfter, Busy, Worn, Bad}
+use Rattle.pager_core.specs.declared.fault.PagerFault.TheVariants.{Busy}
 
 -- one connection at most holds Reserved or more
 pub record HasOneWriter (levels : List Level) : Type 0 where

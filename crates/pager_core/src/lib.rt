@@ -3,11 +3,14 @@
 
 mod commit;
 mod fault;
+mod leave;
 mod locks;
+mod open;
 mod pager;
 mod space;
 
 pub use fault::PagerFault;
+pub use open::OpenRule;
 pub use page_pool::PageSpace;
 pub use pager::Pager;
 pub use space::Space;

@@ -1,6 +1,6 @@
 -- What a level that is granted, refused or lowered leaves of the levels of a pager's file.
-use Rattle.std.proofs.Common.{if◌then◌else◌, ◌≡◌, ◌≢◌, ◌⊎◌, ℕ, ◌-◌, ◌<◌, ◌≤◌, ◌∙◌, Bool, true, false, List, length, Option, Some, None, Err, inl, inr, refl, sym, ap, subst, arith, get_or-set_same, get_or-set_other}
-use Rattle.std.proofs.lemmas.Bool.{cases_eq, cases_lt, eq-eqb, false≢true}
+use Rattle.std.proofs.Common.{if◌then◌else◌, ◌≡◌, ◌≢◌, ◌⊎◌, ℕ, ◌-◌, ◌<◌, ◌≤◌, ◌∙◌, List, length, Some, Err, inl, inr, refl, sym, ap, subst, arith, get_or-set_same, get_or-set_other}
+use Rattle.std.proofs.lemmas.Bool.{cases_eq, cases_lt, eq-eqb}
 use Rattle.std.proofs.lemmas.List.{get_or_past, set-set}
 use Rattle.vfs_model.specs.Lock.{IsOwner, level_at, with_level, rank, Grants, Lowers}
 use Rattle.vfs_model.specs.declared.level.Level.{Level}
@@ -12,7 +12,7 @@ use Rattle.vfs_trait.specs.declared.fault.VfsFault.TheVariants.{Failed, Memory, 
 use Rattle.page_draft.specs.Draft.{now_pages, read_pages}
 use Rattle.pager_core.specs.Locks.{HasOneWriter}
 use Rattle.pager_core.specs.Seen.{seen, owns, OwnerHolds, Fits}
-use Rattle.pager_core.specs.Commit.{Drops, ReturnsAlone}
+use Rattle.pager_core.specs.Commit.{ReturnsAlone}
 use Rattle.pager_core.specs.declared.pager.Pager.{Pager}
 
 -- who holds a level has a place among them
@@ -71,44 +71,6 @@ refused_leaves who (BadPage page kept found) old new h = absurd h
 
 pub refused_fits : (p : Pager) (a b : StackState) (who : ℕ) (fault : VfsFault) → Fits p a → p.owner ≡ Some who → OpenStays a b → LockRule who Exclusive (Err fault) (a.levels p.fid.0) (b.levels p.fid.0) → Fits p b
 refused_fits p a b who fault fits owned opens rule = raised_fits p a b who Pending fits owned opens (omega arith) (refused_leaves who fault (a.levels p.fid.0) (b.levels p.fid.0) rule)
-
--- ---- a level is lowered
-
-lowered_other : (old new : List Level) (who other : ℕ) → IsOwner who → IsOwner other → other ≢ who → Lowers old new who Free → rank (level_at new other) ≡ rank (level_at old other)
-lowered_other old new who other is is' differs h = elim (cases_lt 0 (rank (level_at old who))) [
-  | inl some ↦ ap (λ lv. rank (level_at lv other)) (h.lowered some) ∙ other_rank old who other Free is is' differs
-  | inr none ↦ ap (λ lv. rank (level_at lv other)) (h.kept none)
-]
-
-lowered_own : (old new : List Level) (who : ℕ) → Lowers old new who Free → rank (level_at new who) ≡ 0
-lowered_own old new who h = elim (cases_lt 0 (rank (level_at old who))) [
-  | inl some ↦ ap (λ lv. rank (level_at lv who)) (h.lowered some) ∙ own_rank old who Free (omega (arith, some))
-  | inr none ↦ ap (λ lv. rank (level_at lv who)) (h.kept none) ∙ omega (arith, none)
-]
-
-owner_stays : (o : Option ℕ) (p : Pager) (old new : List Level) (who : ℕ) → IsOwner who → owns o who ≡ false → Lowers old new who Free → OwnerHolds o p old → OwnerHolds o p new
-owner_stays None p old new who is not_his h holds = holds
-owner_stays (Some owner) p old new who is not_his h holds =
-    (holds.0, omega (arith, holds.1, lowered_other old new who owner is holds.0 (λ same. false≢true (sym not_his ∙ eq-eqb owner who same)) h))
-
-pub lowered_fits : (p p' : Pager) (a b : StackState) (who : ℕ) → IsOwner who → Fits p a → Drops p p' who → OpenStays a b → Lowers (a.levels p.fid.0) (b.levels p.fid.0) who Free → Fits p' b
-lowered_fits p p' a b who is fits drops opens lowers =
-    let old = a.levels p.fid.0 in
-    let new = b.levels p.fid.0 in
-    let had : (x : ℕ) → IsOwner x → 2 ≤ rank (level_at new x) → 2 ≤ rank (level_at old x) = λ x is_x writes. elim (cases_eq x who) [
-      | inl same ↦ absurd (omega (arith, writes, ap (λ k. rank (level_at new k)) same, lowered_own old new who lowers))
-      | inr differs ↦ omega (arith, writes, lowered_other old new who x is is_x differs lowers)
-    ] in
-    let number : p'.fid.0 ≡ p.fid.0 = ap (λ fid. fid.0) drops.same.numbered in
-    record {
-      named = ap (λ k. b.open_files k) number ∙ opens.names p.fid.0 ∙ fits.named ∙ ap Some (sym drops.same.named);
-      one = subst (λ k. HasOneWriter (b.levels k)) (sym number) (one_still old new fits.one had);
-      owned = subst (λ k. OwnerHolds p'.owner p' (b.levels k)) (sym number) (owned (owns p.owner who) refl);
-    }
-  where
-    owned : (his : Bool) → owns p.owner who ≡ his → OwnerHolds p'.owner p' (b.levels p.fid.0)
-    owned true his = subst (λ o. OwnerHolds o p' (b.levels p.fid.0)) (sym (drops.owner his)) (drops.clean his)
-    owned false his = subst (λ q. OwnerHolds q.owner q (b.levels p.fid.0)) (sym (drops.stays his)) (owner_stays p.owner p (a.levels p.fid.0) (b.levels p.fid.0) who is his lowers fits.owned)
 
 -- ---- a level is raised, and then ends
 

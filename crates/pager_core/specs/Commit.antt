@@ -17,7 +17,8 @@ use Rattle.vfs_model.specs.declared.layer.Layer.{Layer}
 use Rattle.vfs_trait.specs.State.{StackState, Steady, LevelsStay, OpenStays, name_at}
 use Rattle.vfs_trait.specs.Calls.{FilesLeft, LocksAt, MayFill, checked}
 use Rattle.pager_core.specs.File.{Shows, page_in}
-use Rattle.pager_core.specs.Seen.{owns, seen, is_changed, SameFile}
+use Rattle.pager_core.specs.Seen.{seen, is_changed, SameFile}
+use Rattle.pager_core.specs.Leave.{DropsDraft}
 use Rattle.pager_core.specs.declared.pager.Pager.{Pager}
 use Rattle.pager_core.specs.declared.fault.PagerFault.{PagerFault}
 use Rattle.pager_core.specs.declared.fault.PagerFault.TheVariants.{Failed, Memory, MemoryAfter, Busy, Worn, Bad}
@@ -90,13 +91,6 @@ pub record HasCommitted (old new : Pager) (who : ℕ) : Type 0 where
   pub owner : new.owner ≡ None
   pub clean : IsClean new.pages
 
--- a draft of this connection is gone, if it had one; of another it stays
-pub record Drops (old new : Pager) (who : ℕ) : Type 0 where
-  pub same : SameFile old new
-  pub owner : IsTrue (owns old.owner who) → new.owner ≡ None
-  pub clean : IsTrue (owns old.owner who) → IsClean new.pages
-  pub stays : owns old.owner who ≡ false → new ≡ old
-
 -- By cases of the answer
 
 -- why a commit is answered as it is
@@ -159,7 +153,8 @@ CommitFiles old new fid (Err (Bad page kept found)) = FilesLeft old new
 -- where there is nothing to write, it is done: the draft is gone, the level falls to Free, and no file is touched
 pub record EndsIdle (p p' : Pager) (old new : StackState) (who : ℕ) (result : Result Unit PagerFault) : Type 0 where
   pub done : result ≡ Ok tt
-  pub draft : Drops p p' who
+  pub same : SameFile p p'
+  pub draft : DropsDraft p p' who
   pub levels : LocksAt old new p.fid.0 (λ before after. Lowers before after who Free)
   pub files : FilesLeft old new
 

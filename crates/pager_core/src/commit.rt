@@ -12,7 +12,7 @@ ghost use Rattle.vfs_trait.specs.Calls.{Caused, FilesLeft, LocksAt};
 ghost use Rattle.pager_core.specs.File.{Shows};
 ghost use Rattle.pager_core.specs.Locks.{Asks};
 ghost use Rattle.pager_core.specs.Seen.{seen, Fits, SameFile};
-ghost use Rattle.pager_core.specs.Commit.{IsPlain, commits, MayCount, next_header, IsNextFirst, IsFileOf, IsSynced, SamePager, Drops, CommitCaused, CommitLeaves, CommitLevels, CommitFiles, EndsIdle, EndsCommit, FirstCaused, KeepsBut, StepFails, HasLaid, HasLaidPage, HasWritten};
+ghost use Rattle.pager_core.specs.Commit.{IsPlain, commits, MayCount, next_header, IsNextFirst, IsFileOf, IsSynced, SamePager, CommitCaused, CommitLeaves, CommitLevels, CommitFiles, EndsIdle, EndsCommit, FirstCaused, KeepsBut, StepFails, HasLaid, HasLaidPage, HasWritten};
 
 use crate::fault::PagerFault;
 use crate::pager::Pager;
@@ -50,7 +50,7 @@ impl Pager {
         if self.commits(who) {
             return self.commit_draft(alloc, stack, who);
         }
-        self.end_idle(stack, who);
+        self.rollback(stack, who);
         Ok(())
     }
 
@@ -62,31 +62,6 @@ impl Pager {
             return false;
         }
         self.pages.changed() && self.seen_size(who) > 0
-    }
-
-    /// Ends a connection's draft, if it has one, and its lock.
-    fn end_idle<V: Vfs>(&mut self, stack: &mut V, who: Owner)
-        requires fits { Fits self.old (V.state stack.old) }
-        ensures steady { Steady (V.state stack.old) (V.state stack.new) }
-        ensures opens { OpenStays (V.state stack.old) (V.state stack.new) }
-        ensures files { FilesLeft (V.state stack.old) (V.state stack.new) }
-        ensures levels { LocksAt (V.state stack.old) (V.state stack.new) self.old.fid.0 (λ old new. Lowers old new who Free) }
-        ensures draft { Drops self.old self.new who }
-        ensures fits { Fits self.new (V.state stack.new) }
-    {
-        let _number = who.number();
-        self.drop_draft(who);
-        stack.unlock(self.fid, who, Level::Free);
-    }
-
-    /// Throws the draft of a connection away, if it has one.
-    fn drop_draft(&mut self, who: Owner)
-        ensures draft { Drops self.old self.new who }
-    {
-        if self.owns(who) {
-            self.pages.discard();
-            self.owner = None;
-        }
     }
 
     /// Commits a draft that has something to write.

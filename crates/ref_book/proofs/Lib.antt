@@ -4,3 +4,4 @@ pub mod Unnamed
 pub mod Named
 pub mod Sizes
 pub mod Becomes
+pub mod Needs

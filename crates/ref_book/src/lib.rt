@@ -6,6 +6,7 @@ mod entries;
 mod foreign;
 mod load;
 mod names;
+mod need;
 mod row;
 mod schema;
 mod shelf;

@@ -5,6 +5,7 @@ ghost use Rattle.book_model.specs.Book.{written_row};
 
 use crate::twin::Twin;
 use db_format::{Record, Value};
+use ref_rows::record_size;
 use std::alloc::{AllocError, Global};
 use std::marker::Model;
 
@@ -12,39 +13,32 @@ use std::marker::Model;
 #[derive(Debug, Drop)]
 pub(crate) struct KeptRow {
     values: Record,
-    /// How many bytes its payload takes, where it was not written here.
-    stored: Option<u64>,
+    /// How many bytes its payload takes.
+    size: u64,
 }
 
 impl Model for KeptRow {
-    ghost use Rattle.std.specs.Prelude.{unwrap_or};
     ghost use Rattle.book_model.specs.Book.{Row};
-    ghost use Rattle.book_model.specs.Size.{record_size};
 
     ghost Value = { Row };
 
-    ghost view = { λ r. record { values = r.values; size = unwrap_or r.stored (record_size r.values) } };
+    ghost view = { λ r. record { values = r.values; size = r.size } };
 }
 
 impl KeptRow {
     /// A row as it is written.
-    pub(crate) fn written(values: Record) -> KeptRow
-        ensures { result ≡ written_row values }
+    pub(crate) fn written(values: Record) -> Result<KeptRow, AllocError>
+        ensures { IfOk result (λ row. row ≡ written_row values) }
     {
-        KeptRow {
-            values,
-            stored: None,
-        }
+        let size = record_size(values.as_slice())?;
+        Ok(KeptRow { values, size })
     }
 
     /// A row as it was found, whose payload takes so many bytes.
     pub(crate) fn stored(values: Record, size: u64) -> KeptRow
         ensures { result ≡ record { values = values; size = size } }
     {
-        KeptRow {
-            values,
-            stored: Some(size),
-        }
+        KeptRow { values, size }
     }
 
     /// Its values.
@@ -52,6 +46,13 @@ impl KeptRow {
         ensures { result.now ≡ self.now.values }
     {
         self.values.as_slice()
+    }
+
+    /// How many bytes its payload takes.
+    pub(crate) fn size(&self) -> u64
+        ensures { result ≡ self.now.size }
+    {
+        self.size
     }
 
     /// A copy of its values.
@@ -65,7 +66,7 @@ impl KeptRow {
 impl Twin for KeptRow {
     fn twin(&self, alloc: Global) -> Result<KeptRow, AllocError> {
         let values = self.values.twin(alloc)?;
-        let stored = self.stored;
-        Ok(KeptRow { values, stored })
+        let size = self.size;
+        Ok(KeptRow { values, size })
     }
 }

@@ -1,6 +1,6 @@
 //! The row of the schema for a new table.
 
-ghost use Rattle.std.specs.Prelude.{◌≡◌, pos, ◌≤ℤ◌, length, IfOk, OnOk, map, reverse, ◌++◌};
+ghost use Rattle.std.specs.Prelude.{◌≡◌, pos, ◌<◌, ◌^◌, ◌≤ℤ◌, length, IfOk, OnOk, map, reverse, ◌++◌};
 ghost use Rattle.std.specs.List.{join_with_byte};
 ghost use Rattle.db_format.specs.Create.{written};
 ghost use Rattle.book_model.specs.Book.{next_of, free_below, entry_row};
@@ -38,21 +38,24 @@ fn free_below(schema: &[(i64, KeptRow)], number: i64) -> i64
     free_below(front, number - 1)
 }
 
-/// The row of the schema for a table, whose tree is on no page.
+/// The row of the schema for a table with its root on a page.
 pub(crate) fn entry_row(
     alloc: Global,
     name: &Bytes,
     columns: &ByteLists,
+    root: u64,
 ) -> Result<KeptRow, AllocError>
-    ensures { IfOk result (λ row. row ≡ entry_row name.now columns.now 0) }
+    requires { root < 2 ^ 63 }
+    ensures { IfOk result (λ row. row ≡ entry_row name.now columns.now root) }
 {
     let mut values = Record::from_vec(Vec::new(alloc));
     values.push(Value::Text(Bytes::copy_of(alloc, b"table")?))?;
     values.push(Value::Text(name.twin(alloc)?))?;
     values.push(Value::Text(name.twin(alloc)?))?;
-    values.push(Value::Int(0))?;
+    values.push(Value::Int(root as i64))?;
     values.push(Value::Text(text_of(alloc, name, columns)?))?;
-    Ok(KeptRow::written(values))
+    let row = KeptRow::written(values)?;
+    Ok(row)
 }
 
 /// The text of a table.

@@ -1,7 +1,7 @@
 //! The shelf.
 
-ghost use Rattle.std.specs.Prelude.{◌≡◌, T, ◌-◌, max, [], ◌++◌, pos, map, filter, not, IfOk, OnOk};
-ghost use Rattle.std.specs.List.{list_any};
+ghost use Rattle.std.specs.Prelude.{◌≡◌, T, ◌+◌, ◌-◌, ◌/◌, ◌^◌, ◌<◌, ◌≤◌, max, [], ◌++◌, pos, map, filter, not, IfOk, OnOk};
+ghost use Rattle.std.specs.List.{All, list_any};
 ghost use Rattle.std.specs.Option.{option_copied};
 ghost use Rattle.std.specs.Ordering.{nat_cmp, int_cmp};
 ghost use Rattle.std.specs.Str.{str_eq_ignore_ascii_case};
@@ -18,6 +18,7 @@ use crate::entries::rows_by_rowid;
 use crate::foreign::foreign_of;
 use crate::load::{Schema, names_of, page_size, push_tables, schema_of, unnamed_of};
 use crate::names::{is_foreign_name, is_table_name, is_taken_name};
+use crate::need::{left_of_rows, left_of_tables};
 use crate::row::KeptRow;
 use crate::schema::{entry_row, next_entry};
 use crate::sorted::{find, sorted, with_entry, without_entry};
@@ -28,6 +29,7 @@ use byte_base::{ByteLists, Bytes};
 use db_format::{Record, TableEntry, TableList, one_create, one_record};
 use page_list::one_freelist;
 use ref_pages::word_of;
+use ref_rows::{roots, roots_of_each_size};
 use ref_schema::is_whole;
 use ref_shell::Shelf;
 use ref_trees::RefPages;
@@ -50,6 +52,8 @@ pub struct MapShelf {
     numbers: Numbers,
     ghost tables_rise: { T (is_sorted (slice_cmp nat_cmp) tables.items) },
     ghost schema_rises: { T (is_sorted int_cmp schema.items) },
+    ghost usable_least: { 480 ≤ numbers.usable },
+    ghost usable_most: { numbers.usable ≤ 65536 },
 }
 
 /// The numbers of a book.
@@ -69,12 +73,15 @@ impl MapShelf {
     ghost use Rattle.book_model.specs.Pages.{IsBookOf, IsBook};
     ghost use Rattle.ref_pages.specs.AsPages.{pages_of};
     ghost use Rattle.ref_book.specs.Loaded.{IsPut};
-    ghost use Rattle.book_model.specs.Book.{Book, empty_book, table_at, next_entry, foreign_names};
+    ghost use Rattle.book_model.specs.Book.{Book, empty_book, table_at, next_entry, foreign_names, need_of, with_table};
+    ghost use Rattle.ref_shell.specs.Shelf.{passes};
     ghost use Rattle.ref_book.specs.Shelf.{book_of};
     ghost use Rattle.ref_book.specs.Steps.{emptied};
 
-    /// A book of no pages.
+    /// A book of no pages, of which `usable` bytes each would hold content.
     pub fn new(alloc: Global, page: u32, usable: u32) -> MapShelf
+        requires least { 480 ≤ usable }
+        requires most { usable ≤ 65536 }
         ensures { book_of result ≡ empty_book page usable }
     {
         MapShelf {
@@ -262,6 +269,67 @@ impl MapShelf {
         Ok(all)
     }
 
+    /// What is left of a bound when what the book may need is taken away.
+    fn left(&self, bound: u64) -> u64
+        ensures { result ≡ bound - need_of (book_of self.now) }
+    {
+        let usable = self.numbers.usable;
+        let rest = left_of_rows(usable, bound, &self.schema);
+        left_of_tables(usable, rest, &self.tables)
+    }
+
+    /// The same with an empty table, whose root is on a page.
+    fn with_table_at(
+        &self,
+        name: &Bytes,
+        columns: ByteLists,
+        root: u64,
+    ) -> Result<MapShelf, AllocError>
+        requires { root < 2 ^ 63 }
+        ensures { IfOk result (λ shelf. book_of shelf ≡ emptied (with_table (book_of self.now) name.now columns root)) }
+    {
+        let alloc = self.alloc;
+        let at = self.next();
+        let row = entry_row(alloc, name, &columns, root)?;
+        let table = KeptTable::empty(alloc, columns, at);
+        let tables = self.tables_with(name, table)?;
+        let schema = self.schema_with(at, row)?;
+        self.changed(tables, schema)
+    }
+
+    /// Whether an empty table with its root on a page may pass the greatest database.
+    fn root_may_pass(
+        &self,
+        name: &Bytes,
+        columns: &ByteLists,
+        root: u64,
+    ) -> Result<bool, AllocError>
+        requires { root < 2 ^ 63 }
+        ensures { IfOk result (λ may. may ≡ passes (book_of self.now) (with_table (book_of self.now) name.now columns.now root)) }
+    {
+        let changed = self.with_table_at(name, columns.twin(self.alloc)?, root)?;
+        Ok(self.may_pass(&changed))
+    }
+
+    /// The same of one of some pages.
+    fn some_root_may_pass(
+        &self,
+        name: &Bytes,
+        columns: &ByteLists,
+        roots: &[u64],
+    ) -> Result<bool, AllocError>
+        requires { All (λ root. root < 2 ^ 63) roots.now }
+        ensures { IfOk result (λ may. may ≡ list_any (λ root. passes (book_of self.now) (with_table (book_of self.now) name.now columns.now root)) roots.now) }
+    {
+        let [root, more @ ..] = roots else {
+            return Ok(false);
+        };
+        if self.root_may_pass(name, columns, *root)? {
+            return Ok(true);
+        }
+        self.some_root_may_pass(name, columns, more)
+    }
+
     /// The same with another table of a name.
     fn with_kept(&self, name: &Bytes, table: KeptTable) -> Result<MapShelf, AllocError>
         ensures { IfOk result (λ shelf. book_of shelf ≡ emptied (record (book_of self.now) { tables = map.insert (book_of self.now).tables name.now table })) }
@@ -276,7 +344,9 @@ impl Numbers {
     /// The numbers of pages, of which there are some.
     fn of_pages(pages: &RefPages) -> Numbers
         requires { HasPage (pages_of pages.now) 1 }
-        ensures { AreNumbers (pages_of pages.now) result.counter result.pages result.free result.page result.usable }
+        ensures are { AreNumbers (pages_of pages.now) result.counter result.pages result.free result.page result.usable }
+        ensures least { 480 ≤ result.usable }
+        ensures most { result.usable ≤ 65536 }
     {
         Numbers {
             counter: word_of(pages, 1, 24),
@@ -299,6 +369,23 @@ impl Numbers {
             page: self.page,
             usable: self.usable,
         }
+    }
+
+    /// The least number of pages that passes the greatest database.
+    fn too_many(&self) -> u64
+        ensures { result ≡ 2 ^ 30 / self.now.page + 1 }
+    {
+        match self.page {
+            0 => 1,
+            page => (1 << 30) / u64::from(page) + 1,
+        }
+    }
+
+    /// The pages that nothing names, where they are so many, and those in use.
+    fn in_use(&self, unnamed: usize) -> u64
+        ensures { result ≡ unnamed + (self.now.pages - self.now.free - unnamed) }
+    {
+        self.pages.saturating_sub(self.free).max(unnamed) as u64
     }
 }
 
@@ -461,13 +548,7 @@ impl Shelf for MapShelf {
     }
 
     fn with_table(&self, name: &Bytes, columns: ByteLists) -> Result<MapShelf, AllocError> {
-        let alloc = self.alloc;
-        let at = self.next();
-        let row = entry_row(alloc, name, &columns)?;
-        let table = KeptTable::empty(alloc, columns, at);
-        let tables = self.tables_with(name, table)?;
-        let schema = self.schema_with(at, row)?;
-        self.changed(tables, schema)
+        self.with_table_at(name, columns, 0)
     }
 
     fn without_table(&self, name: &Bytes) -> Result<MapShelf, AllocError> {
@@ -476,5 +557,37 @@ impl Shelf for MapShelf {
         let tables = self.tables_without(name)?;
         let schema = self.schema_without(at)?;
         self.changed(tables, schema)
+    }
+
+    fn twin(&self) -> Result<MapShelf, AllocError> {
+        let alloc = self.alloc;
+        let tables = twins(alloc, &self.tables)?;
+        let foreign = self.foreign.twin(alloc)?;
+        let schema = twins(alloc, &self.schema)?;
+        let unnamed = twins(alloc, &self.unnamed)?;
+        let numbers = self.numbers;
+        Ok(MapShelf {
+            alloc,
+            tables,
+            foreign,
+            schema,
+            unnamed,
+            numbers,
+        })
+    }
+
+    fn is_too_many(&self, pages: u32) -> bool {
+        u64::from(pages) == self.numbers.too_many()
+    }
+
+    fn may_pass(&self, changed: &MapShelf) -> bool {
+        let bound = self.numbers.too_many();
+        let rest = bound.saturating_sub(self.numbers.in_use(self.unnamed.len()));
+        changed.left(rest) == 0
+    }
+
+    fn table_may_pass(&self, name: &Bytes, columns: &ByteLists) -> Result<bool, AllocError> {
+        roots_of_each_size();
+        self.some_root_may_pass(name, columns, &roots())
     }
 }

@@ -1,13 +1,14 @@
 //! A plain table.
 
-ghost use Rattle.std.specs.Prelude.{◌≡◌, T, length, IfOk, OnOk, ◌++◌, map, filter, ◌&&◌};
+ghost use Rattle.std.specs.Prelude.{◌≡◌, T, length, IfOk, OnOk, ◌-◌, ◌≤◌, ◌++◌, map, filter, ◌&&◌};
 ghost use Rattle.std.specs.Option.{option_copied};
 ghost use Rattle.std.specs.Ordering.{int_cmp, is_le};
 ghost use Rattle.std.specs.FinMap as map;
 ghost use Rattle.std.specs.FinMap.{is_sorted, from_sorted};
-ghost use Rattle.book_model.specs.Book.{written_row};
+ghost use Rattle.book_model.specs.Book.{written_row, need_of_map};
 ghost use Rattle.shell_model.specs.Cases.{rows_between};
 
+use crate::need::left_of_rows;
 use crate::row::KeptRow;
 use crate::sorted::{find, with_entry, without_entry};
 use crate::twin::{Twin, twins};
@@ -110,6 +111,15 @@ impl KeptTable {
         Ok(rows)
     }
 
+    /// What is left of a bound when what its rows may need is taken away.
+    pub(crate) fn left(&self, usable: u32, bound: u64) -> u64
+        requires least { 480 ≤ usable }
+        requires most { usable ≤ 65536 }
+        ensures { result ≡ bound - need_of_map usable self.now.rows }
+    {
+        left_of_rows(usable, bound, &self.rows)
+    }
+
     /// The table with a row put.
     pub(crate) fn with_row(
         &self,
@@ -121,7 +131,8 @@ impl KeptTable {
     {
         let columns = self.columns.twin(alloc)?;
         let entry = self.entry;
-        let rows = with_entry(alloc, &self.rows, *rowid, KeptRow::written(values))?;
+        let row = KeptRow::written(values)?;
+        let rows = with_entry(alloc, &self.rows, *rowid, row)?;
         Ok(KeptTable {
             columns,
             entry,

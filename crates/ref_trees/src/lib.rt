@@ -17,7 +17,7 @@ mod walk;
 mod whole;
 
 pub use enter::cells_at;
-pub use need::{named_of, need_of, use_of};
+pub use need::{chain_pages, named_of, need_of, use_of};
 pub use path::path_of;
 pub use ref_pages::{RefPage, RefPages};
 pub use rows::Rows;

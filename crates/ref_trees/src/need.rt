@@ -100,7 +100,7 @@ fn need_of_tree(usable: u32, rows: &[RefRow]) -> Result<u64, AllocError>
 }
 
 /// The overflow pages of a payload of `len` bytes.
-fn chain_pages(usable: u32, len: u64) -> u64
+pub fn chain_pages(usable: u32, len: u64) -> u64
     requires least { 480 ≤ usable }
     requires most { usable ≤ 65536 }
     ensures { result ≡ chain_pages usable len }

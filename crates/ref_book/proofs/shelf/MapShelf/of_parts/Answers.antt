@@ -10,6 +10,8 @@ pub invariant_of-result : goal.invariant_of-result
 invariant_of-result c = record {
   tables_rise = entries_rise (slice_cmp nat_cmp) (from_entries c.args.listed.now) c.in_ok-tables.tables.items c.in_ok-tables.ensures;
   schema_rises = entries_rise int_cmp (from_entries (entries_of 5 c.deref-3.result.now c.deref-4.result.now)) c.in_ok-rows.rows.items c.in_ok-rows.ensures;
+  usable_least = c.of_pages.ensures.least;
+  usable_most = c.of_pages.ensures.most;
 }
 
 pub returns : goal.returns
@@ -20,5 +22,5 @@ returns c = record {
       ap (λ (l : List (ℤ × Row)). from_sorted l) (c.in_ok-rows.ensures ∙ (λ i. entries (from_entries {R = int_cmp} (entries_of 5 (c.deref-3.ensures.value i) (c.deref-4.ensures.value i)))))
       ∙ map_of_entries int_cmp (from_entries (entries_of 5 c.args.schema.now.rows.items c.args.schema.now.records.items));
   unnamed_are = c.in_ok-unnamed.ensures;
-  numbers = c.of_pages.ensures;
+  numbers = c.of_pages.ensures.are;
 }

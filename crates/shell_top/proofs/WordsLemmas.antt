@@ -10,7 +10,7 @@ one_item [] item some few is = absurd (omega (arith, some))
 one_item (first ∷ []) item some few is = ap (λ x. x ∷ []) (sym is)
 one_item (first ∷ other ∷ more) item some few is = absurd (omega (arith, few))
 
--- fewer words than one, or more, name nothing
+-- fewer words than one are refused, and so are more
 pub not_one : {A : Type 0} (bytes_of : A → List ℕ) (items : List A) → length items ≢ 1 → AreRefused (map bytes_of items)
 not_one bytes_of items other = record { each = λ name are. other (sym (length-map items bytes_of) ∙ ap length are.one) }
 

@@ -6,3 +6,4 @@ pub mod RunLemmas
 pub mod ReadLemmas
 pub mod RanLemmas
 pub mod FaultLemmas
+pub mod WordsLemmas

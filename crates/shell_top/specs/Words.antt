@@ -1,21 +1,12 @@
 -- The words of the command line.
-use Rattle.std.specs.Prelude.{◌≡◌, ◌≢◌, ℕ, ◌≤◌, List, [], ◌∷◌, length, Some, slice_get}
-use Rattle.vfs_model.specs.Name.{IsName, kind_of}
+use Rattle.std.specs.Prelude.{◌≡◌, ℕ, List, [], ◌∷◌}
 use Rattle.vfs_model.specs.declared.layer.Layer.{Layer}
-use Rattle.vfs_model.specs.declared.name.Kind.TheVariants.{Main}
+use Rattle.shell_words.specs.Plan.{NameWords, plain_words}
 
--- a database's name: a file name of at most 64 bytes and of the kind Main that begins with neither dash nor dot
-pub record IsDatabaseName (name : List ℕ) : Type 0 where
-  pub file : IsName name
-  pub short : length name ≤ 64
-  pub no_dash : slice_get name 0 ≢ Some 45
-  pub no_dot : slice_get name 0 ≢ Some 46
-  pub main : kind_of name ≡ Main
-
--- the words are one NAME
+-- the words are one NAME, and name this database with nothing else
 pub record AreWords (words : List (List ℕ)) (name : List ℕ) : Type 0 where
   pub one : words ≡ name ∷ []
-  pub database : IsDatabaseName name
+  pub names : NameWords words (plain_words name)
 
 -- the words are refused
 pub record AreRefused (words : List (List ℕ)) : Type 0 where

@@ -1,8 +1,10 @@
 //! The words of the command line.
 
 ghost use Rattle.std.specs.Prelude.{◌≡◌, ℕ, List, map, string_bytes, MatchOption};
-ghost use Rattle.shell_top.specs.Words.{AreWords, AreRefused, IsDatabaseName};
+ghost use Rattle.shell_top.specs.Words.{AreWords, AreRefused};
+ghost use Rattle.shell_words.specs.Plan.{IsDatabaseName};
 
+use shell_words::one_word;
 use vfs_model::{Kind, Name};
 
 /// The most bytes that a database's name has.
@@ -12,6 +14,7 @@ const DATABASE_NAME_LEN: usize = 64;
 pub fn read_words(words: &[String]) -> Option<Name>
     ensures { MatchOption result (AreRefused (map string_bytes words.now)) (AreWords (map string_bytes words.now)) }
 {
+    one_word();
     match words {
         [word] => database_name(word.as_bytes()),
         _ => None,

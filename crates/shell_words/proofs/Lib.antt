@@ -1,1 +1,4 @@
+mod TextLemmas
+mod PiecesLemmas
+mod LayerLemmas
 mod PlanLemmas

@@ -1,25 +1,18 @@
--- One word of the command line.
-use Rattle.std.proofs.Common.{◌≡◌, ◌≢◌, ◌⊎◌, inl, inr, ℕ, zero, suc, ◌-◌, ◌^◌, ◌==◌, Bool, true, false, List, [], ◌∷◌, ◌++◌, append_assoc, length, map, codes, Option, Some, None, refl, sym, ap, subst, ◌∙◌, arith, IsTrue}
+-- The words of the command line name one plan at most, and one word a database.
+use Rattle.std.proofs.Common.{◌≡◌, ◌≢◌, ◌⊎◌, inl, inr, ℕ, zero, suc, ◌-◌, ◌^◌, ◌<◌, ◌==◌, Bool, true, false, List, [], ◌∷◌, ◌++◌, append_assoc, length, map, codes, Option, Some, None, refl, sym, ap, subst, ◌∙◌, arith, IsTrue}
 use Rattle.std.specs.List.{flat_map, list_all, AllZip, AllPairs}
 use Rattle.std.specs.Char.{is_ascii_digit}
 use Rattle.std.proofs.lemmas.Bool.Decides.{Decides-eqb}
 use Rattle.std.proofs.lemmas.List.{length-append}
 use Rattle.vfs_model.specs.Store.{Separate}
-use Rattle.vfs_model.specs.declared.layer.Layer.{Layer}
 use Rattle.shell_words.specs.Plan.{Plan, Words, Setting, setting_word, Piece, sets, stands, is_dashed, SpellsPiece, AreBehind, SpellPieces, values_of, standing, CountOf, SomeCount, SomeWord, IsDatabaseName, journal_name, file_names, SpellsLayer, NameWords, plain_words}
 use Rattle.shell_words.specs.Plan as plan
-use Rattle.shell_words.specs.Plan.{OneWord}
+use Rattle.shell_words.specs.Plan.{OneWord, OnePlan}
+use Rattle.shell_words.proofs.TextLemmas.{no_first, same_first, same_back, one_number}
+use Rattle.shell_words.proofs.PiecesLemmas.{some_word, one_cut}
+use Rattle.shell_words.proofs.LayerLemmas.{one_stack}
 
 -- ---- the pieces of one word
-
-no_first : {A : Type 0} (x : A) (xs : List A) → x ∷ xs ≢ []
-no_first x xs e = omega (arith, ap length e)
-
--- a piece has a word at least
-some_word : (piece : Piece) (part more : List (List ℕ)) → SpellsPiece piece part → part ++ more ≢ []
-some_word (stands word) part more is none = no_first word more (subst (λ (p : List (List ℕ)). p ++ more ≡ []) is.0 none)
-some_word (sets setting value) part more (inl is) none = no_first (setting_word setting) (value ∷ more) (subst (λ (p : List (List ℕ)). p ++ more ≡ []) is.0 none)
-some_word (sets setting value) part more (inr is) none = no_first (setting_word setting ++ 61 ∷ value) more (subst (λ (p : List (List ℕ)). p ++ more ≡ []) is none)
 
 none_behind : (rest behind : List (List ℕ)) → AreBehind rest behind → rest ≡ [] → behind ≡ []
 none_behind rest [] ends none = refl
@@ -32,9 +25,6 @@ no_pieces [] (part ∷ parts) rest behind each ends none = absurd each
 no_pieces (piece ∷ front) [] rest behind each ends none = absurd each
 no_pieces (piece ∷ front) (part ∷ parts) rest behind each ends none =
     absurd (some_word piece part (flat_map (λ part. part) parts ++ rest) each.0 (sym (append_assoc part (flat_map (λ part. part) parts) rest) ∙ none))
-
-same_first : {A : Type 0} (x y : A) (xs ys : List A) → x ∷ xs ≡ y ∷ ys → (x ≡ y) × (xs ≡ ys)
-same_first x y xs ys e = (cc, cc)
 
 -- one word is a piece that stands by itself, or none does
 one_piece : (word : List ℕ) (front : List Piece) (parts : List (List (List ℕ))) (rest behind : List (List ℕ)) → AllZip SpellsPiece front parts → AreBehind rest behind →
@@ -58,51 +48,57 @@ one_piece word (sets setting value ∷ front) (part ∷ parts) rest behind each 
     by (inr one) = inr (ap standing (no_pieces front parts rest behind each.1 ends
         (sym (same_first word (setting_word setting ++ 61 ∷ value) [] (flat_map (λ part. part) parts ++ rest) (whole ∙ ap (λ (p : List (List ℕ)). p ++ (flat_map (λ part. part) parts ++ rest)) one)).1)))
 
--- ---- what they name
+-- ---- what the pieces name
 
-no_word : (asked : Option (List ℕ)) → SomeWord [] asked → asked ≡ None
-no_word None is = refl
-no_word (Some word) is = absurd is
+one_count : (words : List (List ℕ)) (default least most n m : ℕ) → most < 2 ^ 64 → CountOf words default least most n → CountOf words default least most m → n ≡ m
+one_count [] default least most n m small p q = p ∙ sym q
+one_count (word ∷ []) default least most n m small p q = one_number least most word word n m small p q refl
+one_count (word ∷ other ∷ more) default least most n m small p q = absurd p
 
-no_count : (least most : ℕ) (asked : Option ℕ) → SomeCount [] least most asked → asked ≡ None
-no_count least most None is = refl
-no_count least most (Some n) is = absurd is
+one_some : (words : List (List ℕ)) (least most : ℕ) (n m : Option ℕ) → most < 2 ^ 64 → SomeCount words least most n → SomeCount words least most m → n ≡ m
+one_some [] least most None None small p q = refl
+one_some (word ∷ []) least most (Some n) (Some m) small p q = ap Some (one_number least most word word n m small p q refl)
+one_some [] least most (Some n) m small p q = absurd p
+one_some [] least most None (Some m) small p q = absurd q
+one_some (word ∷ []) least most None m small p q = absurd p
+one_some (word ∷ []) least most (Some n) None small p q = absurd q
+one_some (word ∷ other ∷ more) least most n m small p q = absurd p
 
-no_layers : (page : ℕ) (layers : List Layer) → AllZip (SpellsLayer page) [] layers → layers ≡ []
-no_layers page [] all = refl
-no_layers page (layer ∷ layers) all = absurd all
+one_value : (words : List (List ℕ)) (asked other : Option (List ℕ)) → SomeWord words asked → SomeWord words other → asked ≡ other
+one_value [] None None p q = refl
+one_value (word ∷ []) (Some asked) (Some other) p q = ap Some (p ∙ sym q)
+one_value [] (Some asked) other p q = absurd p
+one_value [] None (Some other) p q = absurd q
+one_value (word ∷ []) None other p q = absurd p
+one_value (word ∷ []) (Some asked) None p q = absurd q
+one_value (word ∷ another ∷ more) asked other p q = absurd p
 
-named_alone : (word : List ℕ) (named : Words) (has : NameWords (word ∷ []) named) → has.pieces ≡ stands word ∷ [] → IsDatabaseName word × (named ≡ plain_words word)
-named_alone word named has one =
-    let placed : word ∷ [] ≡ named.plan.name ∷ has.layer_words = subst (λ (p : List Piece). standing p ≡ named.plan.name ∷ has.layer_words) one has.placed in
-    let both = same_first word named.plan.name [] has.layer_words placed in
-    let page : named.plan.page ≡ 4096 = subst (λ (p : List Piece). CountOf (values_of plan.Page p) 4096 512 65536 named.plan.page) one has.page_is in
-    let key : named.key ≡ 0 = subst (λ (p : List Piece). CountOf (values_of plan.Key p) 0 0 (2 ^ 64 - 1) named.key) one has.key_is in
-    let host = no_word named.host (subst (λ (p : List Piece). SomeWord (values_of plan.Host p) named.host) one has.host_is) in
-    let attached = no_word named.plan.attached (subst (λ (p : List Piece). SomeWord (values_of plan.Attach p) named.plan.attached) one has.attached_is) in
-    let load = no_count 1 1000000 named.load (subst (λ (p : List Piece). SomeCount (values_of plan.Load p) 1 1000000 named.load) one has.load_is) in
-    let layers = no_layers named.plan.page named.plan.layers (subst (λ (l : List (List ℕ)). AllZip (SpellsLayer named.plan.page) l named.plan.layers) (sym both.1) has.layers_are) in (
-      subst IsDatabaseName (sym both.0) has.name,
-      λ i. record { plan = record { name = sym both.0 i; attached = attached i; page = page i; layers = layers i }; host = host i; load = load i; key = key i },
-    )
-
-alone : (word : List ℕ) (named : Words) → NameWords (word ∷ []) named → IsDatabaseName word × (named ≡ plain_words word)
-alone word named has =
-    let s = has.spelled in
-    by (one_piece word s.front s.parts s.rest s.behind s.each s.ends s.words_are)
+same : (words : List (List ℕ)) (one other : Words) → NameWords words one → NameWords words other → one ≡ other
+same words one other p q =
+    let pieces = one_cut words p.pieces q.pieces p.spelled q.spelled in
+    let stand = same_first one.plan.name other.plan.name p.layer_words q.layer_words (sym p.placed ∙ ap standing pieces ∙ q.placed) in
+    let page = one_count (values_of plan.Page q.pieces) 4096 512 65536 one.plan.page other.plan.page (omega arith)
+    (subst (λ (l : List Piece). CountOf (values_of plan.Page l) 4096 512 65536 one.plan.page) pieces p.page_is) q.page_is in
+    let host = one_value (values_of plan.Host q.pieces) one.host other.host (subst (λ (l : List Piece). SomeWord (values_of plan.Host l) one.host) pieces p.host_is) q.host_is in
+    let attached = one_value (values_of plan.Attach q.pieces) one.plan.attached other.plan.attached
+    (subst (λ (l : List Piece). SomeWord (values_of plan.Attach l) one.plan.attached) pieces p.attached_is) q.attached_is in
+    let load = one_some (values_of plan.Load q.pieces) 1 1000000 one.load other.load (omega arith)
+    (subst (λ (l : List Piece). SomeCount (values_of plan.Load l) 1 1000000 one.load) pieces p.load_is) q.load_is in
+    let key = one_count (values_of plan.Key q.pieces) 0 0 (2 ^ 64 - 1) one.key other.key (omega arith)
+    (subst (λ (l : List Piece). CountOf (values_of plan.Key l) 0 0 (2 ^ 64 - 1) one.key) pieces p.key_is) q.key_is in
+    let layers = one_stack other.plan.page q.layer_words one.plan.layers other.plan.layers (same_stack page stand.1) q.layers_are in
+    λ i. record { plan = record { name = stand.0 i; attached = attached i; page = page i; layers = layers i }; host = host i; load = load i; key = key i }
   where
-    by : (has.spelled.front ++ map stands has.spelled.behind ≡ stands word ∷ []) ⊎ (standing (has.spelled.front ++ map stands has.spelled.behind) ≡ []) → IsDatabaseName word × (named ≡ plain_words word)
-    by (inl one) = named_alone word named has (has.spelled.pieces_are ∙ one)
-    by (inr none) = absurd (no_first named.plan.name has.layer_words (sym has.placed ∙ ap standing has.spelled.pieces_are ∙ none))
+    same_stack : one.plan.page ≡ other.plan.page → p.layer_words ≡ q.layer_words → AllZip (SpellsLayer other.plan.page) q.layer_words one.plan.layers
+    same_stack page words = subst (λ (n : ℕ). AllZip (SpellsLayer n) q.layer_words one.plan.layers) page (subst (λ (l : List (List ℕ)). AllZip (SpellsLayer one.plan.page) l one.plan.layers) words p.layers_are)
+
+pub one_plan : OnePlan
+one_plan = record { same = same }
 
 -- ---- a name alone names it
 
 not_digits : (digits : List ℕ) → digits ≡ codes "-journal" → ¬ (IsTrue (list_all is_ascii_digit digits))
 not_digits digits is all = let here = subst (λ (d : List ℕ). IsTrue (list_all is_ascii_digit d)) is all in cc
-
-same_back : (front xs ys : List ℕ) → front ++ xs ≡ front ++ ys → xs ≡ ys
-same_back [] xs ys e = e
-same_back (x ∷ front) xs ys e = same_back front xs ys ((same_first x x (front ++ xs) (front ++ ys) e).1)
 
 from_journal : (name : List ℕ) → Separate name (journal_name name)
 from_journal name = record {
@@ -146,6 +142,22 @@ names name is = record {
   layers_are = tt;
   permitted = tt;
 }
+
+-- ---- and nothing else
+
+named_alone : (word : List ℕ) (named : Words) (has : NameWords (word ∷ []) named) → has.pieces ≡ stands word ∷ [] → IsDatabaseName word
+named_alone word named has one =
+    subst IsDatabaseName (sym (same_first word named.plan.name [] has.layer_words (subst (λ (l : List Piece). standing l ≡ named.plan.name ∷ has.layer_words) one has.placed)).0) has.name
+
+alone : (word : List ℕ) (named : Words) → NameWords (word ∷ []) named → IsDatabaseName word × (named ≡ plain_words word)
+alone word named has =
+    let s = has.spelled in
+    let is = by (one_piece word s.front s.parts s.rest s.behind s.each s.ends s.words_are) in
+    (is, same (word ∷ []) named (plain_words word) has (names word is))
+  where
+    by : (has.spelled.front ++ map stands has.spelled.behind ≡ stands word ∷ []) ⊎ (standing (has.spelled.front ++ map stands has.spelled.behind) ≡ []) → IsDatabaseName word
+    by (inl one) = named_alone word named has (has.spelled.pieces_are ∙ one)
+    by (inr none) = absurd (no_first named.plan.name has.layer_words (sym has.placed ∙ ap standing has.spelled.pieces_are ∙ none))
 
 pub one_word : OneWord
 one_word = record { names = names; alone = alone }

@@ -204,9 +204,13 @@ pub record NameWords (words : List (List ℕ)) (named : Words) : Type 0 where
 abbrev pub plain_words : List ℕ → Words
 plain_words name = record { plan = record { name = name; attached = None; page = 4096; layers = [] }; host = None; load = None; key = 0 }
 
--- ---- the law
+-- ---- the laws
 
 -- one word that is a database's name names it, with nothing else, and names nothing else
 pub record OneWord : Type 0 where
   pub names : (name : List ℕ) → IsDatabaseName name → NameWords (name ∷ []) (plain_words name)
   pub alone : (word : List ℕ) (named : Words) → NameWords (word ∷ []) named → IsDatabaseName word × (named ≡ plain_words word)
+
+-- words name one plan at most, and one folder, load and key beside it
+pub record OnePlan : Type 0 where
+  pub same : (words : List (List ℕ)) (one other : Words) → NameWords words one → NameWords words other → one ≡ other

@@ -17,3 +17,6 @@ returns-clause-ran g c name words =
     (sink c.args.output.now) (sink c.answer_all-status.new.output) c.answer_all-status.result c.start-session.result.1
     c.start-session.ensures.named c.start-session.ensures.opens c.answer_all-status.ensures.went c.answer_all-status.ensures.stands
     c.start-session.ensures.touches c.start-session.ensures.refused c.start-session.ensures.unopened c.answer_all-status.ensures.keeps c.close.ensures.steady c.close.ensures.leaves c.view_holds.ensures.stands)
+
+pub returns-in_default-clause-ran : goal.returns-in_default-clause-ran
+returns-in_default-clause-ran g c name words = absurd (c.in_default.ensures.each name words)

@@ -1,3 +1,5 @@
 pub mod LowerLemmas
 pub mod StackLemmas
 pub mod OpenLemmas
+pub mod ReadLemmas
+pub mod SharedLemmas

@@ -3,3 +3,4 @@ pub mod Locks
 pub mod File
 pub mod Leave
 pub mod Open
+pub mod Read

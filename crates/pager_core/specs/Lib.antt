@@ -4,3 +4,4 @@ pub mod File
 pub mod Commit
 pub mod Leave
 pub mod Open
+pub mod Read

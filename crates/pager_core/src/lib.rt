@@ -7,6 +7,7 @@ mod leave;
 mod locks;
 mod open;
 mod pager;
+mod read;
 mod space;
 
 pub use fault::PagerFault;

@@ -16,6 +16,6 @@ returns-in_ok-whole-in-Scan g c =
     let all = rows_between c.in-Scan.low c.in-Scan.high (table_at (seen s c.args.who) name).rows in
     let may : may_scan s c.args.who name ≡ true = search rules in
     let same : c.in_ok-whole-in-Scan.whole ≡ reply.Rows all (last.End (length all)) =
-        c.in_ok-whole-in-Scan.ensures ∙ ap (λ (b : Book). rows_reply c.in-Scan.low c.in-Scan.high (table_at b name).rows) c.seen.ensures in
+    c.in_ok-whole-in-Scan.ensures ∙ ap (λ (b : Book). rows_reply c.in-Scan.low c.in-Scan.high (table_at b name).rows) c.seen.ensures in
     let front = c.begins_with.ensures all (last.End (length all)) same in
     subst (λ (asked : Command). IsTrue c.begins_with.result ↔ MayCut s c.args.who asked c.args.rows.now) (sym c.in-Scan.is) (λ yes. (may, front.0 yes), λ cut. front.1 cut.1)

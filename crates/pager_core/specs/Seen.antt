@@ -1,11 +1,12 @@
 -- The pages of a pager as a connection sees them.
-use Rattle.std.specs.Prelude.{◌≡◌, ◌⊎◌, ℕ, ◌≤◌, ◌==◌, Bool, false, if◌then◌else◌, List, Option, Some, None}
+use Rattle.std.specs.Prelude.{◌≡◌, ◌⊎◌, ℕ, ◌≤◌, ◌==◌, Bool, false, if◌then◌else◌, List, IsTrue, Option, Some, None}
 use Rattle.page_list.specs.Pages.{Pages}
 use Rattle.page_pool.specs.Space.{SpaceState}
 use Rattle.page_draft.specs.Draft.{read_pages, now_pages, IsClean}
 use Rattle.vfs_model.specs.Lock.{IsOwner, level_at, rank}
 use Rattle.vfs_model.specs.declared.level.Level.{Level}
-use Rattle.vfs_trait.specs.State.{StackState}
+use Rattle.vfs_trait.specs.State.{StackState, file_at}
+use Rattle.pager_core.specs.File.{Shows}
 use Rattle.pager_core.specs.Locks.{HasOneWriter}
 use Rattle.pager_core.specs.declared.pager.Pager.{Pager}
 
@@ -54,12 +55,16 @@ pub record Fits (p : Pager) (s : StackState) : Type 0 where
   pub one : HasOneWriter (s.levels p.fid.0)
   pub owned : OwnerHolds p.owner p (s.levels p.fid.0)
 
+-- where the stack tells, the file shows the pages that were read
+abbrev pub IsShown : Pager → StackState → Type 0
+IsShown p s = IsTrue s.tells → Shows p.pages.page_size (file_at s p.fid.0).now.bytes (read_pages p.pages)
+
 abbrev pub space_state : StackState → Pager → ℕ → SpaceState
 space_state s p who = record {
   tells = s.tells;
   page_size = p.pages.page_size;
   pages = seen p who;
-  ready = Fits p s × (1 ≤ rank (level_at (s.levels p.fid.0) who));
+  ready = Fits p s × IsShown p s × (1 ≤ rank (level_at (s.levels p.fid.0) who));
   writable = IsAlone p who × (2 ≤ rank (level_at (s.levels p.fid.0) who));
   changed = is_changed p who;
   faults = s.faults;

@@ -9,9 +9,8 @@ ghost use Rattle.vfs_model.specs.Lock.{Lowers, rank, level_at};
 ghost use Rattle.vfs_model.specs.declared.level.Level.TheVariants.{Free, Exclusive};
 ghost use Rattle.vfs_trait.specs.State.{Steady, OpenStays, IsOpen, file_at};
 ghost use Rattle.vfs_trait.specs.Calls.{Caused, FilesLeft, LocksAt};
-ghost use Rattle.pager_core.specs.File.{Shows};
 ghost use Rattle.pager_core.specs.Locks.{Asks};
-ghost use Rattle.pager_core.specs.Seen.{seen, Fits, SameFile};
+ghost use Rattle.pager_core.specs.Seen.{seen, Fits, IsShown, SameFile};
 ghost use Rattle.pager_core.specs.Commit.{IsPlain, commits, MayCount, next_header, IsNextFirst, IsFileOf, IsSynced, SamePager, CommitCaused, CommitLeaves, CommitLevels, CommitFiles, EndsIdle, EndsCommit, FirstCaused, KeepsBut, StepFails, HasLaid, HasLaidPage, HasWritten};
 
 use crate::fault::PagerFault;
@@ -36,7 +35,7 @@ impl Pager {
         who: Owner,
     ) -> Result<(), PagerFault>
         requires fits { Fits self.old (V.state stack.old) }
-        requires shows { IsTrue (V.state stack.old).tells → Shows self.old.pages.page_size (file_at (V.state stack.old) self.old.fid.0).now.bytes (read_pages self.old.pages) }
+        requires shows { IsShown self.old (V.state stack.old) }
         requires plain { IsPlain (V.state stack.old).layers }
         ensures steady { Steady (V.state stack.old) (V.state stack.new) }
         ensures opens { OpenStays (V.state stack.old) (V.state stack.new) }
@@ -45,7 +44,7 @@ impl Pager {
         ensures commit { commits self.old who ≡ true → EndsCommit self.old self.new (V.state stack.old) (V.state stack.new) who result }
         ensures written { OnOk result (commits self.old who ≡ true → IsTrue (V.state stack.old).tells → IsFileOf self.old.pages.page_size (file_at (V.state stack.new) self.old.fid.0).now.bytes (read_pages self.new.pages)) }
         ensures synced { OnOk result (commits self.old who ≡ true → IsTrue (V.state stack.old).tells → IsSynced (file_at (V.state stack.new) self.old.fid.0)) }
-        ensures shows { OnOk result (IsTrue (V.state stack.old).tells → Shows self.old.pages.page_size (file_at (V.state stack.new) self.old.fid.0).now.bytes (read_pages self.new.pages)) }
+        ensures shows { OnOk result (IsShown self.new (V.state stack.new)) }
     {
         if self.commits(who) {
             return self.commit_draft(alloc, stack, who);
@@ -72,7 +71,7 @@ impl Pager {
         who: Owner,
     ) -> Result<(), PagerFault>
         requires fits { Fits self.old (V.state stack.old) }
-        requires shows { IsTrue (V.state stack.old).tells → Shows self.old.pages.page_size (file_at (V.state stack.old) self.old.fid.0).now.bytes (read_pages self.old.pages) }
+        requires shows { IsShown self.old (V.state stack.old) }
         requires plain { IsPlain (V.state stack.old).layers }
         requires owned { self.old.owner ≡ Some who }
         requires some { HasPage (now_pages self.old.pages) 1 }
@@ -115,7 +114,7 @@ impl Pager {
     fn write_all<V: Vfs>(&mut self, stack: &mut V, first: Bytes) -> Result<(), PagerFault>
         requires is_open { IsOpen (V.state stack.old) self.old.fid.0 }
         requires plain { IsPlain (V.state stack.old).layers }
-        requires shows { IsTrue (V.state stack.old).tells → Shows self.old.pages.page_size (file_at (V.state stack.old) self.old.fid.0).now.bytes (read_pages self.old.pages) }
+        requires shows { IsShown self.old (V.state stack.old) }
         requires some { HasPage (now_pages self.old.pages) 1 }
         requires one_page { length first ≡ self.old.pages.page_size }
         ensures keeps { KeepsBut (V.state stack.old) (V.state stack.new) self.old.fid.0 }
